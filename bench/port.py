@@ -31,8 +31,8 @@ import worklist
 HERE = pathlib.Path(__file__).resolve().parent
 CRATES = {
     "est_kernel": ("code_set", "completion", "mask", "pause_set", "statement"),
-    "est_meaning": ("status",),
-    "est_rounds": ("acts", "answer", "engine", "judged", "resume", "resume_step", "rounds", "signal_set", "start", "step"),
+    "est_meaning": ("signal_set", "status"),
+    "est_rounds": ("acts", "answer", "engine", "judged", "resume", "resume_step", "rounds", "start", "step"),
     "est_net": ("cell_set", "emissions", "extents", "net", "pause_run", "reach", "signal_masks", "table"),
     "est_micro": ("cells", "closing", "decided", "direction", "extents", "find_begin", "find_resume", "idle", "lead", "learning", "micro", "must_can", "next_pauses", "outputs", "pass_begin",
                   "pass_resume", "passes", "question", "settling",

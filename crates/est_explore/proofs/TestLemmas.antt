@@ -8,8 +8,8 @@ use Rattle.est_kernel.specs.View.{query_of}
 use Rattle.est_kernel.proofs.Masks.{bits_zero}
 use Rattle.est_meaning.specs.Environments.{Env, status_of}
 use Rattle.est_meaning.specs.declared.status.Status.{Status}
-use Rattle.est_rounds.specs.Views.{env_of, set_of}
-use Rattle.est_rounds.specs.declared.signal_set.Env.{Env as Masks}
+use Rattle.est_meaning.specs.Views.{env_of, set_of}
+use Rattle.est_meaning.specs.declared.signal_set.Env.{Env as Masks}
 use Rattle.est_explore.specs.Claims.{known, holds, is_yes}
 
 -- the signals of a mask, and no local ones

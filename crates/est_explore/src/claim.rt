@@ -9,9 +9,9 @@ use crate::reads::signals_of;
 use est_cover::answered::AnsweredInputs;
 use est_kernel::mask;
 use est_kernel::statement::Test;
+use est_meaning::signal_set::{Env, SignalSet};
 use est_meaning::status::Status;
 use est_rounds::answer::answer_to;
-use est_rounds::signal_set::{Env, SignalSet};
 
 /// What is claimed of all runs.
 #[derive(Clone, Copy)]

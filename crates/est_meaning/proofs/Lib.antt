@@ -10,5 +10,6 @@ pub mod PausesAreEnough
 pub mod RoundsComeToRest
 pub mod SafeLoopLemmas
 pub mod SettledLemmas
+pub mod SignalSets
 pub mod SteppingLemmas
 pub mod TestLemmas

@@ -1,5 +1,6 @@
 pub mod Signals
 pub mod Environments
+pub mod Views
 pub mod MustCan
 pub mod Rules
 pub mod Rounds

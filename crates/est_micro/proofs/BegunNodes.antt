@@ -13,15 +13,15 @@ use Rattle.est_meaning.specs.Signals.{Signals, union, without}
 use Rattle.est_meaning.specs.Environments.{Env, and_status, opposite, status_of, verdict, with_local}
 use Rattle.est_meaning.specs.declared.status.Status.{Status}
 use Rattle.est_meaning.specs.declared.status.Status.TheVariants.{Absent}
+use Rattle.est_meaning.specs.Views.{env_of, set_of}
+use Rattle.est_meaning.specs.declared.signal_set.Env.{Env as Known}
 use Rattle.est_cells.proofs.Reach.{union_none}
 use Rattle.est_cells.proofs.ValuesAreMeant.{two}
 use Rattle.est_cells.specs.Gates.{ends, emitted_status, gates, then_codes}
 use Rattle.est_cells.specs.Tables.{Sheet, sheet_size, emits, is_sure}
 use Rattle.est_net.specs.Cells.{cell_at, learned, Learns}
 use Rattle.est_net.specs.Layout.{parts_in, sheet_in}
-use Rattle.est_rounds.specs.Views.{env_of, set_of}
 use Rattle.est_rounds.specs.declared.acts.MustCan.{MustCan}
-use Rattle.est_rounds.specs.declared.signal_set.Env.{Env as Known}
 use Rattle.est_micro.specs.Sweeps.{swept_parts, swept, told}
 use Rattle.est_micro.specs.declared.direction.Direction.{Direction}
 use Rattle.est_micro.specs.declared.direction.Direction.TheVariants.{Forwards, Backwards}

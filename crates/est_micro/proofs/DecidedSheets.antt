@@ -18,15 +18,15 @@ use Rattle.est_meaning.specs.States.{is_live}
 use Rattle.est_meaning.specs.Environments.{Env, verdict}
 use Rattle.est_meaning.specs.declared.status.Status.{Status}
 use Rattle.est_meaning.specs.declared.status.Status.TheVariants.{Present, Absent, Unknown}
+use Rattle.est_meaning.specs.Views.{env_of, set_of}
+use Rattle.est_meaning.specs.declared.signal_set.Env.{Env as Known}
+use Rattle.est_meaning.specs.declared.signal_set.SignalSet.{SignalSet}
 use Rattle.est_cells.proofs.Reach.{none_union}
 use Rattle.est_cells.proofs.ValuesAreMeant.{two}
 use Rattle.est_cells.specs.Tables.{Node, Parts, Sheet, emits, if_run, is_sure, is_possible}
 use Rattle.est_cells.specs.Tables.{make_again, map_again, of_again, sheet_size}
 use Rattle.est_net.specs.Cells.{AllDecided, cell_at, is_known, learned}
 use Rattle.est_net.specs.Layout.{node_in, parts_in, possible_codes, sheet_in, sure_codes}
-use Rattle.est_rounds.specs.Views.{env_of, set_of}
-use Rattle.est_rounds.specs.declared.signal_set.Env.{Env as Known}
-use Rattle.est_rounds.specs.declared.signal_set.SignalSet.{SignalSet}
 use Rattle.est_micro.specs.Sweeps.{live_swept, live_swept_parts, may_told, sure_told, sweep_by, swept, swept_parts}
 use Rattle.est_micro.specs.declared.direction.Direction.{Direction}
 use Rattle.est_micro.specs.Inner.Views.{AddsEmitted, IsBegun, IsJudged, IsRead, IsResumed, IsSwept}

@@ -7,13 +7,13 @@ use Rattle.est_kernel.specs.declared.statement.Statement.{Statement}
 use Rattle.est_kernel.specs.declared.statement.Statement.TheVariants.{Loop', Local' as Binder'}
 use Rattle.est_meaning.specs.Signals.{Signals, no_signals, union, without}
 use Rattle.est_meaning.specs.declared.status.Status.{Status}
+use Rattle.est_meaning.specs.Views.{set_of}
+use Rattle.est_meaning.specs.declared.signal_set.SignalSet.{SignalSet}
 use Rattle.est_cells.proofs.Reach.{none_union, union_none}
 use Rattle.est_cells.specs.Tables.{emits, is_sure, sheet_size}
 use Rattle.est_net.specs.Cells.{cell_at}
 use Rattle.est_net.specs.Layout.{sheet_in}
 use Rattle.est_net.proofs.Reaching.{or_assoc}
-use Rattle.est_rounds.specs.Views.{set_of}
-use Rattle.est_rounds.specs.declared.signal_set.SignalSet.{SignalSet}
 use Rattle.est_micro.specs.Inner.Views.{AddsBoth, AddsEmitted}
 
 union_over : (a b c : Signals) → union (union a b) c ≡ union a (union b c)

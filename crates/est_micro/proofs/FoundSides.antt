@@ -19,6 +19,7 @@ use Rattle.est_meaning.specs.Knowledge.{IsBelow, KnowsLess}
 use Rattle.est_meaning.specs.States.{is_live, term_at}
 use Rattle.est_meaning.specs.declared.status.Status.{Status}
 use Rattle.est_meaning.specs.declared.status.Status.TheVariants.{Present, Absent}
+use Rattle.est_meaning.specs.Views.{env_of}
 use Rattle.est_cells.proofs.Order.{ends_below}
 use Rattle.est_cells.specs.Gates.{ends}
 use Rattle.est_cells.specs.Meaning.{begun, cells_at, resumed, status_at}
@@ -29,7 +30,6 @@ use Rattle.est_net.specs.Extents.{HasExtents}
 use Rattle.est_net.specs.Kept.{Kept}
 use Rattle.est_net.specs.Layout.{output_count, sheet_in}
 use Rattle.est_net.specs.declared.extents.Extent.{Extent}
-use Rattle.est_rounds.specs.Views.{env_of}
 use Rattle.est_micro.specs.Inner.Passes.{EndsBy}
 use Rattle.est_micro.specs.Inner.Hearing.{Heard}
 use Rattle.est_micro.specs.Inner.Sides.{IsFound, IsFoundIn, IsPart, IsWithin}

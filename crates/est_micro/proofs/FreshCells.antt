@@ -8,9 +8,9 @@ use Rattle.est_kernel.specs.Codes.{no_codes}
 use Rattle.est_meaning.specs.Signals.{no_signals}
 use Rattle.est_meaning.specs.declared.status.Status.{Status}
 use Rattle.est_meaning.specs.declared.status.Status.TheVariants.{Present, Absent, Unknown}
+use Rattle.est_meaning.specs.declared.signal_set.Env.{Env as Known}
 use Rattle.est_cells.specs.Tables.{sheet_size}
 use Rattle.est_net.specs.Cells.{AllOpen, AreFalse, Learns, NoneTrue, cell_at, is_known, learned}
-use Rattle.est_rounds.specs.declared.signal_set.Env.{Env as Known}
 use Rattle.est_micro.specs.Inner.Views.{Changes, IsBegun, IsFresh, IsIdle, IsJudged, IsResumed}
 use Rattle.est_micro.specs.declared.cells.StatementPlace.{StatementPlace}
 use Rattle.est_micro.specs.declared.cells.Swept.{Swept}

@@ -13,15 +13,15 @@ use Rattle.est_meaning.specs.States.{term_at}
 use Rattle.est_meaning.specs.Environments.{Env, verdict, with_local}
 use Rattle.est_meaning.specs.declared.status.Status.{Status}
 use Rattle.est_meaning.specs.declared.status.Status.TheVariants.{Present, Absent, Unknown}
+use Rattle.est_meaning.specs.Views.{env_of, set_of}
+use Rattle.est_meaning.specs.declared.signal_set.Env.{Env as Known}
+use Rattle.est_meaning.specs.declared.signal_set.SignalSet.{SignalSet}
 use Rattle.est_cells.proofs.Emitted.{sure_begun, sure_resumed}
 use Rattle.est_cells.proofs.Sound.{status_steady}
 use Rattle.est_cells.specs.Gates.{emitted_status}
 use Rattle.est_cells.specs.Meaning.{begun, can_at, must_at, resumed, status_at}
 use Rattle.est_cells.specs.Tables.{Sheet, emits, is_possible, is_sure}
 use Rattle.est_net.specs.Cells.{learned}
-use Rattle.est_rounds.specs.Views.{env_of, set_of}
-use Rattle.est_rounds.specs.declared.signal_set.Env.{Env as Known}
-use Rattle.est_rounds.specs.declared.signal_set.SignalSet.{SignalSet}
 use Rattle.est_micro.specs.Inner.Hearing.{Heard, Seen}
 use Rattle.est_micro.specs.Sweeps.{told}
 

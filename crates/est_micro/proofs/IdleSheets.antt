@@ -14,6 +14,8 @@ use Rattle.est_meaning.specs.Environments.{Env, and_status, opposite, status_of,
 use Rattle.est_meaning.specs.declared.status.Status.{Status}
 use Rattle.est_meaning.specs.declared.status.Status.TheVariants.{Present, Absent, Unknown}
 use Rattle.est_meaning.proofs.SteppingLemmas.{and_false}
+use Rattle.est_meaning.specs.Views.{env_of}
+use Rattle.est_meaning.specs.declared.signal_set.Env.{Env as Known}
 use Rattle.est_cells.proofs.Emitted.{again_none, run_none}
 use Rattle.est_cells.proofs.Reach.{code_none, max_none, none_then, trap_none, union_none, without_none}
 use Rattle.est_cells.proofs.ValuesAreMeant.{two, ends_none}
@@ -24,8 +26,6 @@ use Rattle.est_cells.specs.Tables.{sheet_size}
 use Rattle.est_cells.specs.Values.{idle, idle_parts, rests}
 use Rattle.est_net.specs.Cells.{AreFalse, NoneTrue, cell_at, learned}
 use Rattle.est_net.specs.Layout.{node_in, parts_in, possible_codes, sheet_in, sure_codes}
-use Rattle.est_rounds.specs.Views.{env_of}
-use Rattle.est_rounds.specs.declared.signal_set.Env.{Env as Known}
 use Rattle.est_micro.specs.Sweeps.{entered, sure_told, may_told, sweep_by, swept, swept_parts}
 use Rattle.est_micro.specs.declared.direction.Direction.{Direction}
 use Rattle.est_micro.specs.Inner.Views.{IsBegun, IsIdle, IsJudged, IsSwept}

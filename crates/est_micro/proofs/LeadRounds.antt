@@ -15,6 +15,9 @@ use Rattle.est_meaning.specs.Signals.{Signals}
 use Rattle.est_meaning.specs.declared.status.Status.{Status}
 use Rattle.est_meaning.specs.declared.status.Status.TheVariants.{Present, Absent, Unknown}
 use Rattle.est_meaning.proofs.RoundsComeToRest.{judged_within}
+use Rattle.est_meaning.specs.Views.{env_of, set_of}
+use Rattle.est_meaning.specs.declared.signal_set.Env.{Env as Known}
+use Rattle.est_meaning.specs.declared.signal_set.SignalSet.{SignalSet}
 use Rattle.est_cells.proofs.Order.{emits_whole}
 use Rattle.est_cells.proofs.WholeTable.{table_sound}
 use Rattle.est_cells.specs.Tables.{Sheet, emits, is_possible, is_sure}
@@ -25,9 +28,6 @@ use Rattle.est_net.specs.Emissions.{emissions, is_of}
 use Rattle.est_net.specs.Layout.{output_count, sheet_in}
 use Rattle.est_net.specs.declared.emissions.Emission.{Emission}
 use Rattle.est_net.specs.declared.extents.Extent.{Extent}
-use Rattle.est_rounds.specs.Views.{env_of, set_of}
-use Rattle.est_rounds.specs.declared.signal_set.Env.{Env as Known}
-use Rattle.est_rounds.specs.declared.signal_set.SignalSet.{SignalSet}
 use Rattle.est_micro.specs.Inner.Closing.{IsFoundClosed}
 use Rattle.est_micro.specs.Inner.Hearing.{Heard}
 use Rattle.est_micro.specs.Inner.Leads.{Leads, LeadsIn, SheetChanges, last_of}

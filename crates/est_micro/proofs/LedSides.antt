@@ -12,10 +12,10 @@ use Rattle.est_cells.proofs.Order.{emits_up}
 use Rattle.est_cells.specs.Meaning.{begun, resumed}
 use Rattle.est_cells.specs.Tables.{Below, Sheet, emits, is_sure, sheet_size}
 use Rattle.est_meaning.specs.declared.status.Status.{Status}
+use Rattle.est_meaning.specs.Views.{set_of}
 use Rattle.est_net.specs.Cells.{cell_at}
 use Rattle.est_net.specs.Layout.{sheet_in}
 use Rattle.est_net.specs.declared.extents.Extent.{Extent}
-use Rattle.est_rounds.specs.Views.{set_of}
 use Rattle.est_micro.specs.Inner.Hearing.{Heard}
 use Rattle.est_micro.specs.Inner.Sides.{IsOneOf, IsSideLed, IsWithin}
 use Rattle.est_micro.specs.Inner.Views.{Changes, IsSwept}

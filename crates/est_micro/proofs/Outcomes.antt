@@ -35,6 +35,9 @@ use Rattle.est_meaning.specs.declared.status.Status.{Status}
 use Rattle.est_meaning.specs.declared.status.Status.TheVariants.{Unknown}
 use Rattle.est_meaning.proofs.KnowledgeIsMonotone.{no_true}
 use Rattle.est_meaning.proofs.RoundsComeToRest.{judged_within}
+use Rattle.est_meaning.specs.Views.{env_of, set_of}
+use Rattle.est_meaning.specs.declared.signal_set.Env.{Env as Known}
+use Rattle.est_meaning.specs.declared.signal_set.SignalSet.{SignalSet}
 use Rattle.est_cells.proofs.MicrostepsAgree.{decided_up, values_decided, meaning_by, all_decided, some_open, left_open}
 use Rattle.est_cells.proofs.NextState.{first_pauses, next_pauses, same_bool}
 use Rattle.est_cells.proofs.Order.{emits_up}
@@ -47,9 +50,6 @@ use Rattle.est_net.specs.Cells.{cell_at}
 use Rattle.est_net.specs.Layout.{output_count, sheet_in, sure_codes}
 use Rattle.est_rounds.proofs.Reacting.{paused_state, paused_reacts, ended_reacts}
 use Rattle.est_rounds.specs.Contract.{IsReaction, HasNoReaction}
-use Rattle.est_rounds.specs.Views.{env_of, set_of}
-use Rattle.est_rounds.specs.declared.signal_set.Env.{Env as Known}
-use Rattle.est_rounds.specs.declared.signal_set.SignalSet.{SignalSet}
 use Rattle.est_micro.specs.Runs.{IsSettled, output_cells, table_of}
 use Rattle.est_micro.specs.Engine.{GoesOnFrom, HasValues, IsAsMeant}
 use Rattle.est_micro.specs.declared.cells.Swept.{Swept}

@@ -15,11 +15,11 @@ use Rattle.est_meaning.specs.States.{IsState}
 use Rattle.est_meaning.specs.declared.status.Status.{Status}
 use Rattle.est_meaning.specs.declared.status.Status.TheVariants.{Present}
 use Rattle.est_meaning.proofs.RoundsComeToRest.{judged_within}
+use Rattle.est_meaning.specs.Views.{env_of}
 use Rattle.est_net.specs.Cells.{cell_at, decided}
 use Rattle.est_net.specs.Layout.{output_count, sheet_in}
 use Rattle.est_rounds.specs.Contract.{AreInputs}
 use Rattle.est_rounds.specs.Parts.{AgreeOn, AreInputOutputsAsked, not_asked}
-use Rattle.est_rounds.specs.Views.{env_of}
 use Rattle.est_micro.specs.Inner.Outcomes.{HasNoCode}
 use Rattle.est_micro.specs.Parts.{AgreeBut, AreInputsAlone, IsClosedBut, known_but}
 use Rattle.est_micro.specs.Runs.{IsSettledBut, output_cells, table_of}

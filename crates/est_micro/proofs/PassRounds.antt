@@ -19,6 +19,8 @@ use Rattle.est_meaning.specs.States.{state_term}
 use Rattle.est_meaning.specs.declared.status.Status.{Status}
 use Rattle.est_meaning.specs.declared.status.Status.TheVariants.{Present, Absent}
 use Rattle.est_meaning.proofs.RoundsComeToRest.{judged_within}
+use Rattle.est_meaning.specs.Views.{env_of}
+use Rattle.est_meaning.specs.declared.signal_set.Env.{Env as Known}
 use Rattle.est_cells.proofs.Order.{below_then}
 use Rattle.est_cells.proofs.WholeTable.{table_known, table_sound}
 use Rattle.est_cells.specs.Tables.{Below, Sheet, emits, is_possible, is_sure, sheet_size}
@@ -29,8 +31,6 @@ use Rattle.est_net.specs.Emissions.{emissions, is_of}
 use Rattle.est_net.specs.Layout.{output_count, rank, sheet_in}
 use Rattle.est_net.specs.declared.emissions.Emission.{Emission}
 use Rattle.est_rounds.specs.declared.acts.MustCan.{MustCan}
-use Rattle.est_rounds.specs.Views.{env_of}
-use Rattle.est_rounds.specs.declared.signal_set.Env.{Env as Known}
 use Rattle.est_micro.specs.Inner.Hearing.{Heard}
 use Rattle.est_micro.specs.Inner.Leads.{last_of}
 use Rattle.est_micro.specs.Parts.{AgreeBut, AreInputsAlone, opened}

@@ -16,14 +16,14 @@ use Rattle.est_meaning.specs.States.{is_live}
 use Rattle.est_meaning.specs.Environments.{Env, and_status, opposite, status_of, verdict, with_local}
 use Rattle.est_meaning.specs.declared.status.Status.{Status}
 use Rattle.est_meaning.specs.declared.status.Status.TheVariants.{Absent}
+use Rattle.est_meaning.specs.Views.{env_of, set_of}
+use Rattle.est_meaning.specs.declared.signal_set.Env.{Env as Known}
 use Rattle.est_cells.proofs.ValuesAreMeant.{two}
 use Rattle.est_cells.specs.Gates.{ends, emitted_status, live_gates, then_codes, sure_code, may_code}
 use Rattle.est_cells.specs.Tables.{Sheet, emits, is_sure, sheet_size}
 use Rattle.est_net.specs.Cells.{cell_at, learned, Learns}
 use Rattle.est_net.specs.Layout.{sheet_in}
-use Rattle.est_rounds.specs.Views.{env_of, set_of}
 use Rattle.est_rounds.specs.declared.acts.MustCan.{MustCan}
-use Rattle.est_rounds.specs.declared.signal_set.Env.{Env as Known}
 use Rattle.est_micro.specs.Sweeps.{swept, live_swept_parts, live_swept, told}
 use Rattle.est_micro.specs.declared.direction.Direction.{Direction}
 use Rattle.est_micro.specs.declared.direction.Direction.TheVariants.{Forwards, Backwards}

@@ -21,15 +21,15 @@ use Rattle.est_meaning.specs.Environments.{Env, verdict}
 use Rattle.est_meaning.specs.declared.status.Status.{Status}
 use Rattle.est_meaning.specs.declared.status.Status.TheVariants.{Present, Absent, Unknown}
 use Rattle.est_meaning.proofs.EmittedIsPresent.{judged_at}
+use Rattle.est_meaning.specs.Views.{env_of, set_of}
+use Rattle.est_meaning.specs.declared.signal_set.Env.{Env as Known}
+use Rattle.est_meaning.specs.declared.signal_set.SignalSet.{SignalSet}
 use Rattle.est_cells.proofs.Order.{below_then}
 use Rattle.est_cells.proofs.WholeTable.{at_rest, sheet_sure, table_known, table_sound}
 use Rattle.est_cells.specs.Tables.{Sheet, Below, emits, is_sure, is_possible}
 use Rattle.est_cells.specs.Whole.{Table, TableBelow, known, sheet_gates, sheet_meaning, table_meaning}
 use Rattle.est_net.specs.Cells.{cell_at, learned}
 use Rattle.est_net.specs.Layout.{output_count, rank, sheet_in}
-use Rattle.est_rounds.specs.Views.{env_of, set_of}
-use Rattle.est_rounds.specs.declared.signal_set.Env.{Env as Known}
-use Rattle.est_rounds.specs.declared.signal_set.SignalSet.{SignalSet}
 use Rattle.est_micro.specs.Inner.Hearing.{Heard, Seen}
 use Rattle.est_micro.specs.declared.direction.Direction.{Direction}
 use Rattle.est_micro.specs.Parts.{AreInputsAlone, IsClosedBut, known_but, opened}

@@ -24,6 +24,8 @@ use Rattle.est_meaning.specs.declared.status.Status.{Status}
 use Rattle.est_meaning.specs.declared.status.Status.TheVariants.{Present, Absent, Unknown}
 use Rattle.est_meaning.proofs.EmittedIsPresent.{judged_at}
 use Rattle.est_meaning.proofs.RoundsComeToRest.{judged_within}
+use Rattle.est_meaning.specs.Views.{env_of}
+use Rattle.est_meaning.specs.declared.signal_set.Env.{Env as Known}
 use Rattle.est_cells.proofs.OpenTable.{opened_begun, opened_resumed}
 use Rattle.est_cells.proofs.WholeTable.{at_rest}
 use Rattle.est_cells.specs.Opening.{open_sheet}
@@ -32,8 +34,6 @@ use Rattle.est_cells.specs.Whole.{known, sheet_gates, sheet_meaning}
 use Rattle.est_net.specs.Cells.{AllOpen, cell_at, decided, learned}
 use Rattle.est_net.specs.Layout.{cell_count, output_count, rank, sheet_in}
 use Rattle.est_net.specs.Reach.{HasEmissions}
-use Rattle.est_rounds.specs.Views.{env_of}
-use Rattle.est_rounds.specs.declared.signal_set.Env.{Env as Known}
 use Rattle.est_micro.specs.declared.direction.Direction.{Direction}
 use Rattle.est_micro.specs.Parts.{AreInputsAlone, IsClosedBut}
 use Rattle.est_micro.specs.Runs.{AreOfferedTrue, output_cells, output_gate, AreSignalsUpdated, IsRound, IsSettled}

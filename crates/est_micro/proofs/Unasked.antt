@@ -17,10 +17,10 @@ use Rattle.est_meaning.specs.Knowledge.{IsBelow, KnowsLess}
 use Rattle.est_meaning.specs.Signals.{Signals, no_signals, only, union, without}
 use Rattle.est_meaning.specs.declared.status.Status.{Status}
 use Rattle.est_meaning.specs.declared.status.Status.TheVariants.{Present, Unknown}
+use Rattle.est_meaning.specs.declared.signal_set.Env.{Env as Known}
 use Rattle.est_cells.specs.Tables.{Again, Sheet, emits, if_run, of_again}
 use Rattle.est_cells.specs.Whole.{known}
 use Rattle.est_net.specs.Cells.{learned}
-use Rattle.est_rounds.specs.declared.signal_set.Env.{Env as Known}
 use Rattle.est_micro.specs.Inner.Hearing.{Heard, Seen}
 use Rattle.est_micro.specs.Parts.{AgreeBut, AreInputsAlone, known_but, opened}
 use Rattle.est_micro.specs.Runs.{output_cells, AreSignalsUpdated, IsRound}

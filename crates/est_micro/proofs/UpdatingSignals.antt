@@ -13,13 +13,13 @@ use Rattle.est_meaning.specs.Rounds.{how_many}
 use Rattle.est_meaning.specs.Environments.{verdict}
 use Rattle.est_meaning.specs.declared.status.Status.{Status}
 use Rattle.est_meaning.specs.declared.status.Status.TheVariants.{Unknown}
+use Rattle.est_meaning.specs.Views.{env_of, set_of}
+use Rattle.est_meaning.specs.declared.signal_set.Env.{Env as Known}
 use Rattle.est_cells.specs.Tables.{is_sure, is_possible}
 use Rattle.est_cells.specs.Whole.{known}
 use Rattle.est_net.specs.Cells.{cell_at, learned}
 use Rattle.est_net.proofs.OwnerValues.{read_back}
 use Rattle.est_net.proofs.Ranges.{last_or_before}
-use Rattle.est_rounds.specs.Views.{env_of, set_of}
-use Rattle.est_rounds.specs.declared.signal_set.Env.{Env as Known}
 use Rattle.est_micro.specs.Inner.Outputs.{AreSignalsTold, IsToldOne}
 use Rattle.est_micro.specs.Parts.{opened}
 use Rattle.est_micro.specs.Inner.Views.{Changes}

@@ -13,12 +13,12 @@ use Rattle.est_meaning.specs.Rounds.{judged_signals}
 use Rattle.est_meaning.specs.Environments.{Env, verdict}
 use Rattle.est_meaning.specs.declared.status.Status.{Status}
 use Rattle.est_meaning.specs.declared.status.Status.TheVariants.{Present, Absent}
+use Rattle.est_meaning.specs.Views.{env_of}
+use Rattle.est_meaning.specs.declared.signal_set.Env.{Env as Known}
 use Rattle.est_cells.specs.Tables.{Sheet, emits, is_sure, is_possible}
 use Rattle.est_cells.specs.Whole.{Table, TableBelow, table_gates, table_meaning}
 use Rattle.est_net.specs.Cells.{cell_at, decided, learned}
 use Rattle.est_net.specs.Layout.{cell_count, output_count, rank, sheet_in, table_in}
-use Rattle.est_rounds.specs.Views.{env_of}
-use Rattle.est_rounds.specs.declared.signal_set.Env.{Env as Known}
 use Rattle.est_micro.specs.Parts.{IsClosedBut, known_but}
 use Rattle.est_micro.specs.Sweeps.{swept, live_swept}
 use Rattle.est_micro.specs.declared.direction.Direction.{Direction}

@@ -19,10 +19,10 @@ use crate::sweep_kind::SweepKind;
 use est_kernel::code_set::CodeSet;
 use est_kernel::completion::Completion;
 use est_kernel::statement::TrapIndex;
+use est_meaning::signal_set;
 use est_meaning::status::Status;
 use est_net::net::Net;
 use est_rounds::acts::{Acts, MustCan};
-use est_rounds::signal_set;
 
 /// Where a statement and its cells stand, and which way a sweep goes over them.
 #[derive(Clone, Copy)]

@@ -24,10 +24,10 @@ use crate::learning::tell_cell;
 use crate::must_can;
 use crate::sweep_kind::LaterSweep;
 use est_kernel::statement::Statement;
+use est_meaning::signal_set;
 use est_meaning::status::Status;
 use est_net::net::Net;
 use est_rounds::acts::{Acts, MustCan};
-use est_rounds::signal_set;
 
 /// What is judged of a statement by its codes alone: no signal is emitted.
 #[inline(always)]

@@ -9,19 +9,19 @@ ghost use Rattle.est_kernel.specs.View.{name_of};
 ghost use Rattle.est_kernel.specs.declared.statement.Statement.TheVariants.{Loop'};
 ghost use Rattle.est_kernel.specs.declared.statement.Statement.TheVariants.{Local' as Binder'};
 ghost use Rattle.est_meaning.specs.Signals.{union};
+ghost use Rattle.est_meaning.specs.Views.{set_of};
 ghost use Rattle.est_cells.specs.Tables.{if_run, is_sure, sheet_size};
 ghost use Rattle.est_net.specs.Cells.{AllDecided, cell_at};
 ghost use Rattle.est_net.specs.Extents.{HasExtents};
-ghost use Rattle.est_rounds.specs.Views.{set_of};
 ghost use Rattle.est_micro.specs.Inner.Views.{AddsBoth, AddsEmitted, IsRead};
 
 use crate::cells::{self, StatementPlace, Swept};
 use crate::extents::past;
 use crate::must_can;
 use est_kernel::statement::{LocalSignal, Signal, Statement};
+use est_meaning::signal_set::{self, SignalSet};
 use est_net::net::Net;
 use est_rounds::acts::{Acts, MustCan};
-use est_rounds::signal_set::{self, SignalSet};
 
 /// Puts the signal of an emission into the set, if its go cell is true.
 #[inline(always)]

@@ -15,12 +15,12 @@ ghost use Rattle.est_kernel.specs.declared.statement.Statement.TheVariants.{Susp
 ghost use Rattle.est_kernel.specs.declared.statement.Statement.TheVariants.{Seq', Loop', Par'};
 ghost use Rattle.est_kernel.specs.declared.statement.Statement.TheVariants.{Present'};
 ghost use Rattle.est_meaning.specs.Environments.{status_of};
+ghost use Rattle.est_meaning.specs.Views.{env_of};
 ghost use Rattle.est_cells.specs.Meaning.{begun};
 ghost use Rattle.est_cells.specs.Tables.{sheet_size};
 ghost use Rattle.est_net.specs.Extents.{HasExtents, extent_at};
 ghost use Rattle.est_net.specs.Kept.{kept};
 ghost use Rattle.est_net.specs.Owners.{statements};
-ghost use Rattle.est_rounds.specs.Views.{env_of};
 ghost use Rattle.est_micro.specs.Inner.Passes.{Passes};
 ghost use Rattle.est_micro.specs.Inner.Sides.{IsFound};
 
@@ -30,10 +30,10 @@ use crate::pass_begin::visit;
 use crate::side_order::SideOrder;
 use est_kernel::pause_set::PauseSet;
 use est_kernel::statement::{LocalSignal, Statement};
+use est_meaning::signal_set::{self, Env};
 use est_meaning::status::Status;
 use est_net::net::Net;
 use est_rounds::answer::answer_to;
-use est_rounds::signal_set::{self, Env};
 
 /// Whether the `||` of the order is in the statement of this number.
 #[inline(always)]

@@ -16,12 +16,12 @@ ghost use Rattle.est_kernel.specs.declared.statement.Statement.TheVariants.{Loop
 ghost use Rattle.est_kernel.specs.declared.statement.Statement.TheVariants.{Trap'};
 ghost use Rattle.est_meaning.specs.Environments.{and_status, opposite, status_of};
 ghost use Rattle.est_meaning.specs.States.{is_live};
+ghost use Rattle.est_meaning.specs.Views.{env_of};
 ghost use Rattle.est_cells.specs.Meaning.{resumed};
 ghost use Rattle.est_cells.specs.Tables.{sheet_size};
 ghost use Rattle.est_net.specs.Extents.{HasExtents};
 ghost use Rattle.est_net.specs.Kept.{kept};
 ghost use Rattle.est_net.specs.Owners.{statements};
-ghost use Rattle.est_rounds.specs.Views.{env_of};
 ghost use Rattle.est_micro.specs.Inner.Passes.{EndsBy, PassesOn, SidePasses};
 ghost use Rattle.est_micro.specs.Inner.Sides.{IsFound, SideFound};
 
@@ -32,10 +32,10 @@ use crate::pass_resume::visit_resumed;
 use crate::side_order::SideOrder;
 use est_kernel::pause_set::PauseSet;
 use est_kernel::statement::{LocalSignal, Statement};
+use est_meaning::signal_set::{self, Env};
 use est_meaning::status::Status;
 use est_net::net::Net;
 use est_rounds::answer::answer_to;
-use est_rounds::signal_set::{self, Env};
 
 /// Whether a pause of the `||` of the order is set, as far as its pauses are a run of numbers.
 fn goes_on(net: &Net, pauses: &PauseSet, order: &SideOrder) -> bool

@@ -9,13 +9,13 @@ ghost use Rattle.std.specs.Prelude.{◌≡◌, ◌≤◌, ◌+◌, ℕ, Bool, tr
 ghost use Rattle.est_kernel.specs.Bits.{bits};
 ghost use Rattle.est_meaning.specs.States.{IsState};
 ghost use Rattle.est_meaning.specs.declared.status.Status.TheVariants.{Present};
+ghost use Rattle.est_meaning.specs.Views.{env_of};
 ghost use Rattle.est_cells.specs.Tables.{sheet_size};
 ghost use Rattle.est_cells.specs.Whole.{sheet_meaning};
 ghost use Rattle.est_net.specs.Cells.{decided};
 ghost use Rattle.est_net.specs.Extents.{HasExtents};
 ghost use Rattle.est_net.specs.Kept.{kept};
 ghost use Rattle.est_net.specs.Layout.{output_count};
-ghost use Rattle.est_rounds.specs.Views.{env_of};
 ghost use Rattle.est_micro.specs.Engine.{IsNetOf};
 ghost use Rattle.est_micro.specs.Parts.{AgreeBut, AreInputsAlone};
 ghost use Rattle.est_micro.specs.Inner.Leads.{LeadsIn, SheetChanges};
@@ -40,9 +40,9 @@ use crate::sweep_kind::{FirstSweep, LaterSweep, SweepKind};
 use crate::sweep_resume::sweep_resumed;
 use est_kernel::mask;
 use est_kernel::state::State;
+use est_meaning::signal_set::{Env, SignalSet};
 use est_meaning::status::Status;
 use est_net::net::Net;
-use est_rounds::signal_set::{Env, SignalSet};
 
 /// Finds the `||` of an order in a kernel's statement.
 fn find<'a>(

@@ -8,9 +8,9 @@ ghost use Rattle.est_kernel.specs.Codes.{either_code, max_codes, codes_out_of_tr
 ghost use Rattle.est_kernel.specs.Term.{inner};
 ghost use Rattle.est_meaning.specs.Signals.{no_signals, union, without};
 ghost use Rattle.est_meaning.specs.Environments.{verdict};
+ghost use Rattle.est_meaning.specs.Views.{env_of, set_of};
 ghost use Rattle.est_cells.specs.Gates.{sure_code, may_code, then_codes};
 ghost use Rattle.est_cells.specs.Tables.{if_run, is_sure, is_possible};
-ghost use Rattle.est_rounds.specs.Views.{env_of, set_of};
 ghost use Rattle.est_micro.specs.Sweeps.{told};
 ghost use Rattle.est_micro.specs.Inner.Views.{IsJudged, IsPaired};
 
@@ -19,9 +19,9 @@ use est_kernel::code_set::CodeSet;
 use est_kernel::completion::Completion;
 use est_kernel::mask;
 use est_kernel::statement::{LocalSignal, Signal};
+use est_meaning::signal_set::{self, Env, SignalSet};
 use est_meaning::status::Status;
 use est_rounds::acts::{Acts, MustCan};
-use est_rounds::signal_set::{self, Env, SignalSet};
 
 /// This code alone, where the statement is run.
 fn sure_of(run: Status, completion: Completion) -> CodeSet

@@ -17,10 +17,10 @@ use crate::question::Question;
 use crate::sweep_kind::LaterSweep;
 use est_kernel::code_set::CodeSet;
 use est_kernel::mask;
+use est_meaning::signal_set::{self, Env, SignalSet};
 use est_meaning::status::Status;
 use est_net::net::Net;
 use est_rounds::acts::{Acts, MustCan};
-use est_rounds::signal_set::{self, Env, SignalSet};
 
 /// What the cell of a signal is told: it is present where it was offered, and else by what is
 /// emitted.

@@ -13,11 +13,11 @@ ghost use Rattle.est_kernel.specs.Masks.{FitsMasks};
 ghost use Rattle.est_kernel.specs.View.{term_of};
 ghost use Rattle.est_kernel.specs.declared.statement.Statement.TheVariants.{Suspend', Trap'};
 ghost use Rattle.est_kernel.specs.declared.statement.Statement.TheVariants.{Seq', Loop', Par'};
+ghost use Rattle.est_meaning.specs.Views.{env_of};
 ghost use Rattle.est_cells.specs.Tables.{sheet_size};
 ghost use Rattle.est_net.specs.Extents.{HasExtents};
 ghost use Rattle.est_net.specs.Kept.{kept};
 ghost use Rattle.est_net.specs.Owners.{statements};
-ghost use Rattle.est_rounds.specs.Views.{env_of};
 ghost use Rattle.est_micro.specs.Inner.Passes.{Passes};
 
 use crate::cells::StatementPlace;
@@ -26,9 +26,9 @@ use crate::sweep_begin::sweep_begun;
 use crate::sweep_kind::LaterSweep;
 use est_kernel::mask;
 use est_kernel::statement::Statement;
+use est_meaning::signal_set::Env;
 use est_meaning::status::Status;
 use est_net::net::Net;
-use est_rounds::signal_set::Env;
 
 /// Whether a gate says more than the go cell.
 #[inline(always)]

@@ -11,11 +11,11 @@ ghost use Rattle.est_kernel.specs.Pauses.{pauses_of};
 ghost use Rattle.est_kernel.specs.View.{term_of};
 ghost use Rattle.est_kernel.specs.declared.statement.Statement.TheVariants.{Seq', Loop', Par'};
 ghost use Rattle.est_meaning.specs.States.{is_live};
+ghost use Rattle.est_meaning.specs.Views.{env_of};
 ghost use Rattle.est_cells.specs.Tables.{sheet_size};
 ghost use Rattle.est_net.specs.Extents.{HasExtents};
 ghost use Rattle.est_net.specs.Kept.{kept};
 ghost use Rattle.est_net.specs.Owners.{statements};
-ghost use Rattle.est_rounds.specs.Views.{env_of};
 ghost use Rattle.est_micro.specs.Inner.Passes.{PassesOn, SidePasses};
 
 use crate::cells::StatementPlace;
@@ -25,9 +25,9 @@ use crate::sweep_kind::LaterSweep;
 use crate::sweep_resume::sweep_resumed;
 use est_kernel::pause_set::PauseSet;
 use est_kernel::statement::Statement;
+use est_meaning::signal_set::Env;
 use est_meaning::status::Status;
 use est_net::net::Net;
-use est_rounds::signal_set::Env;
 
 /// Sweeps a statement, as a pass.
 pub fn visit_resumed(

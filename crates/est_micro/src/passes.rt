@@ -5,12 +5,12 @@ ghost use Rattle.std.specs.Prelude.{◌≡◌, ◌≤◌, ℕ, Bool};
 ghost use Rattle.std.specs.List.{list_any};
 ghost use Rattle.est_kernel.specs.Bits.{bits};
 ghost use Rattle.est_meaning.specs.States.{IsState};
+ghost use Rattle.est_meaning.specs.Views.{env_of};
 ghost use Rattle.est_cells.specs.Tables.{is_possible, is_sure};
 ghost use Rattle.est_net.specs.Cells.{cell_at, decided};
 ghost use Rattle.est_net.specs.Emissions.{is_of};
 ghost use Rattle.est_net.specs.Kept.{kept};
 ghost use Rattle.est_net.specs.Layout.{output_count};
-ghost use Rattle.est_rounds.specs.Views.{env_of};
 ghost use Rattle.est_micro.specs.Engine.{IsNetOf};
 ghost use Rattle.est_micro.specs.Parts.{AgreeBut, AreInputsAlone};
 ghost use Rattle.est_micro.specs.Inner.Passes.{IsPassRound, SheetPasses};
@@ -27,10 +27,10 @@ use crate::side_order::SideOrder;
 use est_kernel::code_set::CodeSet;
 use est_kernel::mask;
 use est_kernel::state::State;
+use est_meaning::signal_set::{Env, SignalSet};
 use est_meaning::status::Status;
 use est_net::net::Net;
 use est_rounds::acts::{Acts, MustCan};
-use est_rounds::signal_set::{Env, SignalSet};
 
 /// The signals that one environment decides, and the other does not.
 pub fn newly_decided(old: &Env, new: &Env) -> u64 {

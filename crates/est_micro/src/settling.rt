@@ -4,10 +4,10 @@
 ghost use Rattle.std.specs.Prelude.{◌≡◌, ◌≢◌, ◌⊎◌, ℕ, Bool, true, false, length};
 ghost use Rattle.est_kernel.specs.Bits.{bits};
 ghost use Rattle.est_meaning.specs.States.{IsState};
+ghost use Rattle.est_meaning.specs.Views.{env_of};
 ghost use Rattle.est_net.specs.Cells.{AllOpen};
 ghost use Rattle.est_net.specs.Kept.{kept, reopened};
 ghost use Rattle.est_net.specs.Layout.{output_count};
-ghost use Rattle.est_rounds.specs.Views.{env_of};
 ghost use Rattle.est_micro.specs.Engine.{IsNetOf};
 ghost use Rattle.est_micro.specs.Parts.{AgreeBut, AreInputsAlone};
 ghost use Rattle.est_micro.specs.Runs.{IsSettledBut, sheet_swept};
@@ -25,9 +25,9 @@ use crate::sweep_begin::sweep_begun;
 use crate::sweep_kind::{FirstSweep, LaterSweep, SweepKind};
 use crate::sweep_resume::sweep_resumed;
 use est_kernel::state::State;
+use est_meaning::signal_set::Env;
 use est_meaning::status::Status;
 use est_net::net::Net;
-use est_rounds::signal_set::Env;
 
 /// Sweeps the cells of a kernel's statement by what is known.
 fn sweep<K: SweepKind>(

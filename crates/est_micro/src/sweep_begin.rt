@@ -15,11 +15,11 @@ ghost use Rattle.est_kernel.specs.declared.statement.Statement.TheVariants.{Seq'
 ghost use Rattle.est_kernel.specs.declared.statement.Statement.TheVariants.{Trap', Exit};
 ghost use Rattle.est_kernel.specs.declared.statement.Statement.TheVariants.{Local' as Binder'};
 ghost use Rattle.est_meaning.specs.Environments.{status_of};
+ghost use Rattle.est_meaning.specs.Views.{env_of};
 ghost use Rattle.est_cells.specs.Tables.{sheet_size};
 ghost use Rattle.est_net.specs.Extents.{HasExtents};
 ghost use Rattle.est_net.specs.Kept.{kept};
 ghost use Rattle.est_net.specs.Owners.{statements};
-ghost use Rattle.est_rounds.specs.Views.{env_of};
 ghost use Rattle.est_micro.specs.Inner.Views.{IsBegun, IsFresh};
 ghost use Rattle.est_micro.specs.declared.direction.Direction.TheVariants.{Forwards, Backwards};
 
@@ -32,10 +32,10 @@ use crate::sweep_kind::SweepKind;
 use crate::{decided, must_can};
 use est_kernel::completion::Completion;
 use est_kernel::statement::{LocalSignal, Signal, Statement};
+use est_meaning::signal_set::{self, Env};
 use est_meaning::status::Status;
 use est_net::net::Net;
 use est_rounds::answer::answer_to;
-use est_rounds::signal_set::{self, Env};
 
 /// Sweeps a statement without parts that gives this code where it is begun.
 #[inline(always)]

@@ -15,12 +15,12 @@ ghost use Rattle.est_kernel.specs.declared.statement.Statement.TheVariants.{Par'
 ghost use Rattle.est_kernel.specs.declared.statement.Statement.TheVariants.{Local' as Binder'};
 ghost use Rattle.est_meaning.specs.States.{is_live};
 ghost use Rattle.est_meaning.specs.Environments.{status_of};
+ghost use Rattle.est_meaning.specs.Views.{env_of, set_of};
 ghost use Rattle.est_cells.specs.Gates.{sure_code, may_code};
 ghost use Rattle.est_cells.specs.Tables.{sheet_size};
 ghost use Rattle.est_net.specs.Extents.{HasExtents};
 ghost use Rattle.est_net.specs.Kept.{kept};
 ghost use Rattle.est_net.specs.Owners.{statements};
-ghost use Rattle.est_rounds.specs.Views.{env_of, set_of};
 ghost use Rattle.est_micro.specs.Inner.Views.{IsChosen, IsFresh, IsJudged, IsResumed};
 ghost use Rattle.est_micro.specs.declared.direction.Direction.TheVariants.{Forwards, Backwards};
 
@@ -34,11 +34,11 @@ use crate::{decided, must_can};
 use est_kernel::completion::Completion;
 use est_kernel::pause_set::PauseSet;
 use est_kernel::statement::{LocalSignal, Statement};
+use est_meaning::signal_set::{self, Env};
 use est_meaning::status::Status;
 use est_net::net::Net;
 use est_rounds::acts::MustCan;
 use est_rounds::answer::answer_to;
-use est_rounds::signal_set::{self, Env};
 
 /// Sweeps a pause, which ends where it is run.
 #[inline(always)]

@@ -13,10 +13,10 @@ ghost use Rattle.est_kernel.specs.declared.statement.Statement.TheVariants.{Loop
 ghost use Rattle.est_kernel.specs.declared.statement.Statement.TheVariants.{Local' as Binder'};
 ghost use Rattle.est_meaning.specs.States.{is_live};
 ghost use Rattle.est_meaning.specs.declared.status.Status.TheVariants.{Absent, Present};
+ghost use Rattle.est_meaning.specs.Views.{env_of};
 ghost use Rattle.est_cells.specs.Tables.{sheet_size};
 ghost use Rattle.est_net.specs.Cells.{cell_at};
 ghost use Rattle.est_net.specs.Layout.{output_count, sheet_in};
-ghost use Rattle.est_rounds.specs.Views.{env_of};
 ghost use Rattle.est_micro.specs.Engine.{IsNetOf};
 ghost use Rattle.est_micro.specs.Waiting.{AreWaiting, IsWaiting, first_read, first_read_of_joint};
 ghost use Rattle.est_micro.specs.Waiting.{if_unasked, pauses_from, waits_at, waits_for};
@@ -26,11 +26,11 @@ use est_kernel::mask;
 use est_kernel::pause_set::PauseSet;
 use est_kernel::state::State;
 use est_kernel::statement::{LocalSignal, Operands, Signal, Statement, Test};
+use est_meaning::signal_set::{self, Env};
 use est_meaning::status::Status;
 use est_net::net::Net;
 use est_rounds::answer::answer_to;
 use est_rounds::resume::has_live;
-use est_rounds::signal_set::{self, Env};
 
 /// What the search for open tests reads.
 #[derive(Clone, Copy)]

@@ -10,10 +10,11 @@ use Rattle.est_meaning.specs.Environments as meaning
 use Rattle.est_meaning.specs.declared.status.Status.TheVariants.{Unknown}
 use Rattle.est_meaning.specs.MustCan.{must, can, sure}
 use Rattle.est_meaning.specs.Rounds.{first_env, round}
-use Rattle.est_rounds.specs.Views.{set_of, env_of, judged_by}
+use Rattle.est_meaning.specs.Views.{set_of, env_of}
+use Rattle.est_meaning.specs.declared.signal_set.Env.{Env}
+use Rattle.est_meaning.specs.declared.signal_set.SignalSet.{SignalSet}
+use Rattle.est_rounds.specs.Views.{judged_by}
 use Rattle.est_rounds.specs.declared.judged.JudgedSignals.{JudgedSignals}
-use Rattle.est_rounds.specs.declared.signal_set.Env.{Env}
-use Rattle.est_rounds.specs.declared.signal_set.SignalSet.{SignalSet}
 
 -- the signals that are judged, as a mask
 pub judged_signals_are : (i : List Declaration) (inputs may_be judged : ℕ → Bool) → may_be ≡ emittable i

@@ -1,4 +1,3 @@
 pub mod Known
 pub mod Reacting
 pub mod Resuming
-pub mod SignalSets

@@ -14,8 +14,8 @@ use Rattle.est_meaning.specs.Rounds.{JudgedSignals, last_env}
 use Rattle.est_meaning.specs.Reaction.{Reacts}
 use Rattle.est_meaning.specs.States.{term_at, IsState, state_term}
 use Rattle.est_meaning.specs.Steps.{StepsTo}
-use Rattle.est_rounds.specs.Views.{set_of}
-use Rattle.est_rounds.specs.declared.signal_set.SignalSet.{SignalSet}
+use Rattle.est_meaning.specs.Views.{set_of}
+use Rattle.est_meaning.specs.declared.signal_set.SignalSet.{SignalSet}
 
 -- a step of code 1 leaves a state of the statement
 pub paused_state : (s : Statement) (t : Term) (e : Env) (o : Signals) (k : ℕ) (p : PauseSet) → k ≡ 1

@@ -17,7 +17,7 @@ use Rattle.est_meaning.proofs.AgreementLemmas.{apart_left}
 use Rattle.est_meaning.proofs.SteppingLemmas.{ready, steps_same, present_first, present_second, seq_stays, seq_goes}
 use Rattle.est_meaning.proofs.SteppingLemmas.{seq_second, seq_none, loop_again, loop_none, loop_none_in, par_settles}
 use Rattle.est_meaning.proofs.SteppingLemmas.{stays_held, idle}
-use Rattle.est_rounds.specs.Views.{set_of}
+use Rattle.est_meaning.specs.Views.{set_of}
 use Rattle.est_rounds.specs.Inner.Steps.{Sleeps, CannotMove, Moves, IsResumed}
 use Rattle.est_rounds.specs.declared.step.Step.{Step}
 use Rattle.est_rounds.specs.declared.resume_step.Resumed.{Resumed}

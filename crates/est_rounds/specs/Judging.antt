@@ -7,11 +7,12 @@ use Rattle.est_meaning.specs.MustCan as meaning
 use Rattle.est_meaning.specs.MustCan.{must, can, sure, maybe, next_mode, must_then, can_then}
 use Rattle.est_meaning.specs.States.{is_live, term_at}
 use Rattle.est_meaning.specs.Environments.{Env}
+use Rattle.est_meaning.specs.Views.{env_of}
+use Rattle.est_meaning.specs.declared.signal_set.Env.{Env as Known}
 use Rattle.est_kernel.specs.Pauses.{pauses_of}
 use Rattle.est_kernel.specs.declared.pause_set.PauseSet.{PauseSet}
 use Rattle.est_kernel.specs.declared.statement.Statement.{Statement}
-use Rattle.est_rounds.specs.Views.{acts_of, env_of}
-use Rattle.est_rounds.specs.declared.signal_set.Env.{Env as Known}
+use Rattle.est_rounds.specs.Views.{acts_of}
 use Rattle.est_rounds.specs.declared.acts.Acts.{Acts}
 use Rattle.est_rounds.specs.declared.acts.MustCan.{MustCan}
 

@@ -7,12 +7,13 @@ ghost use Rattle.est_meaning.specs.MustCan.{just_code, no_acts, either, together
 ghost use Rattle.est_meaning.specs.MustCan.{hide, local_status, may_stay, must_then, can_then};
 ghost use Rattle.est_meaning.specs.MustCan.{sure};
 ghost use Rattle.est_meaning.specs.Environments.{verdict};
-ghost use Rattle.est_rounds.specs.Views.{acts_of, set_of};
+ghost use Rattle.est_meaning.specs.Views.{set_of};
+ghost use Rattle.est_rounds.specs.Views.{acts_of};
 
-use crate::signal_set::{self, SignalSet};
 use est_kernel::code_set::CodeSet;
 use est_kernel::completion::Completion;
 use est_kernel::statement::LocalSignal;
+use est_meaning::signal_set::{self, SignalSet};
 use est_meaning::status::Status;
 
 /// Signals that are emitted, and completion codes that are given.

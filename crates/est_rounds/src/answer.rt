@@ -6,10 +6,10 @@
 ghost use Rattle.std.specs.Prelude.{◌≡◌};
 ghost use Rattle.est_kernel.specs.View.{joint_of, query_of};
 ghost use Rattle.est_meaning.specs.Environments.{opposite, status_of, status_of_joint};
-ghost use Rattle.est_rounds.specs.Views.{env_of};
+ghost use Rattle.est_meaning.specs.Views.{env_of};
 
-use crate::signal_set::{Env, status_of_signal};
 use est_kernel::statement::{Connective, Operands, Test};
+use est_meaning::signal_set::{Env, status_of_signal};
 use est_meaning::status::Status;
 
 /// What is known of what a test asks. A test of one signal takes no call.

@@ -7,7 +7,7 @@
 //! The audit of journals and the tests ask it; servers run `est_micro`.
 //!
 //! `start` and `resume` say what a statement must do and can do, as `acts`. `step` and
-//! `resume_step` are the step that it takes once each signal is decided (`signal_set`).
+//! `resume_step` are the step that it takes once each signal is decided.
 #![tactic(auto)]
 
 pub mod acts;
@@ -18,6 +18,5 @@ pub mod part_engine;
 pub mod resume;
 mod resume_step;
 pub mod rounds;
-pub mod signal_set;
 mod start;
 mod step;

@@ -13,11 +13,11 @@ ghost use Rattle.est_rounds.specs.Judging.{Judges, JudgesInDoubt};
 
 use crate::acts::{Acts, MustCan};
 use crate::answer::answer_to;
-use crate::signal_set::{self, Env};
 use crate::start::{then_start, then_start_maybe};
 use est_kernel::completion::Completion;
 use est_kernel::pause_set::PauseSet;
 use est_kernel::statement::{LocalSignal, Statement, Test};
+use est_meaning::signal_set::{self, Env};
 use est_meaning::status::Status;
 
 /// Whether a pause of the statement is in the set.

@@ -15,11 +15,11 @@ ghost use Rattle.est_rounds.specs.Inner.Steps.{KeepsOthers, TakeTurns, TakesOver
 
 use crate::answer::answer_to;
 use crate::resume::{has_live, resume_sure};
-use crate::signal_set::{self, Env};
 use crate::step::{Step, both, start_step};
 use est_kernel::completion::Completion;
 use est_kernel::pause_set::PauseSet;
 use est_kernel::statement::{LocalSignal, Statement, Test};
+use est_meaning::signal_set::{self, Env};
 use est_meaning::status::Status;
 
 /// What a statement does as it goes on from its pauses.

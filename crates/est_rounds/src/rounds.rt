@@ -6,8 +6,9 @@ ghost use Rattle.est_kernel.specs.PauseNumbers.{has_pause};
 ghost use Rattle.est_kernel.specs.declared.kernel.Kernel.{Kernel as KernelValue};
 ghost use Rattle.est_meaning.specs.Rounds.{first_env, how_many};
 ghost use Rattle.est_meaning.specs.States.{IsState};
+ghost use Rattle.est_meaning.specs.Views.{env_of};
 ghost use Rattle.est_rounds.specs.Contract.{judged_of};
-ghost use Rattle.est_rounds.specs.Views.{env_of, acts_of, judged_by};
+ghost use Rattle.est_rounds.specs.Views.{acts_of, judged_by};
 ghost use Rattle.est_rounds.specs.Judging.{can_by, must_by};
 ghost use Rattle.est_rounds.specs.Inner.Learning.{IsKernelStep, IsLastRound, IsRound, is_left_open};
 ghost use Rattle.est_rounds.specs.Inner.Learning.{term_left};
@@ -18,7 +19,6 @@ use crate::engine::Engine;
 use crate::judged::JudgedSignals;
 use crate::resume::resume_sure;
 use crate::resume_step::{Resumed, resume_step};
-use crate::signal_set::{Env, SignalSet};
 use crate::start::start_sure;
 use crate::step::{Step, start_step};
 use est_kernel::completion::Completion;
@@ -26,6 +26,7 @@ use est_kernel::kernel::Kernel;
 use est_kernel::mask;
 use est_kernel::pause_set::PauseSet;
 use est_kernel::state::{Inputs, Outcome, State, Stuck};
+use est_meaning::signal_set::{Env, SignalSet};
 
 /// The signals that are judged for a kernel in an instant with these inputs: those that may be
 /// emitted and are not offered.

@@ -13,10 +13,10 @@ ghost use Rattle.est_rounds.specs.Judging.{can_by, can_follow, may_by, must_by, 
 
 use crate::acts::{Acts, MustCan};
 use crate::answer::answer_to;
-use crate::signal_set::{self, Env};
 use est_kernel::code_set::CodeSet;
 use est_kernel::completion::Completion;
 use est_kernel::statement::{LocalSignal, Statement};
+use est_meaning::signal_set::{self, Env};
 use est_meaning::status::Status;
 
 /// What a statement can do where it is in doubt whether it is reached (mode `maybe`).

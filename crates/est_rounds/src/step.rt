@@ -16,17 +16,17 @@ ghost use Rattle.est_kernel.specs.Term.{par, seq, signal, trap};
 ghost use Rattle.est_kernel.specs.declared.statement.Statement.TheVariants.{Local', Par', Seq'};
 ghost use Rattle.est_kernel.specs.declared.statement.Statement.TheVariants.{Trap'};
 ghost use Rattle.est_meaning.specs.Signals.{no_signals, union, without};
-ghost use Rattle.est_rounds.specs.Views.{set_of};
+ghost use Rattle.est_meaning.specs.Views.{set_of};
 ghost use Rattle.est_rounds.specs.Inner.Steps.{AreClear, HaveSamePauses, IfBegun, IsClear};
 ghost use Rattle.est_rounds.specs.Inner.Steps.{IsStuckBy, KeepsAllBut, KeepsOthers, emitted};
 ghost use Rattle.est_rounds.specs.Inner.Steps.{greater_code};
 
 use crate::answer::answer_to;
-use crate::signal_set::{self, Env, SignalSet};
 use crate::start::start_sure;
 use est_kernel::completion::Completion;
 use est_kernel::pause_set::PauseSet;
 use est_kernel::statement::{LocalSignal, Statement};
+use est_meaning::signal_set::{self, Env, SignalSet};
 use est_meaning::status::Status;
 
 /// The signals that are emitted, and how the statement completes.

@@ -3,9 +3,9 @@ use Rattle.std.specs.Prelude.{ℕ, Bool, true, List}
 use Rattle.est_kernel.specs.declared.kernel.Kernel.{Kernel}
 use Rattle.est_kernel.specs.declared.state.State.{State}
 use Rattle.est_meaning.specs.declared.status.Status.{Status}
+use Rattle.est_meaning.specs.Views.{env_of}
+use Rattle.est_meaning.specs.declared.signal_set.Env.{Env as Known}
 use Rattle.est_net.specs.Layout.{output_count}
-use Rattle.est_rounds.specs.Views.{env_of}
-use Rattle.est_rounds.specs.declared.signal_set.Env.{Env as Known}
 use Rattle.est_micro.specs.Parts.{AgreeBut}
 use Rattle.est_micro.specs.Runs.{Ready, sheet_swept}
 use Rattle.est_micro.specs.Inner.Views.{IsSwept}

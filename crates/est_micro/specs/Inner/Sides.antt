@@ -11,13 +11,13 @@ use Rattle.est_meaning.specs.Environments.{Env}
 use Rattle.est_meaning.specs.Knowledge.{IsBelow, IsIn, KnowsLess}
 use Rattle.est_meaning.specs.States.{is_live}
 use Rattle.est_meaning.specs.declared.status.Status.{Status}
+use Rattle.est_meaning.specs.Views.{env_of}
 use Rattle.est_cells.specs.Meaning.{begun, resumed}
 use Rattle.est_cells.specs.Tables.{Below, Sheet, emits, is_sure, sheet_size}
 use Rattle.est_net.specs.Cells.{cell_at}
 use Rattle.est_net.specs.Extents.{HasExtents}
 use Rattle.est_net.specs.Layout.{sheet_in}
 use Rattle.est_net.specs.declared.extents.Extent.{Extent}
-use Rattle.est_rounds.specs.Views.{env_of}
 use Rattle.est_micro.specs.Inner.Hearing.{Heard}
 use Rattle.est_micro.specs.Inner.Views.{Changes}
 use Rattle.est_micro.specs.declared.cells.StatementPlace.{StatementPlace}

@@ -8,14 +8,14 @@ use Rattle.est_kernel.specs.declared.statement.Statement.{Statement}
 use Rattle.est_meaning.specs.Signals.{Signals, union}
 use Rattle.est_meaning.specs.declared.status.Status.{Status}
 use Rattle.est_meaning.specs.declared.status.Status.TheVariants.{Absent}
+use Rattle.est_meaning.specs.Views.{set_of, env_of}
+use Rattle.est_meaning.specs.declared.signal_set.Env.{Env as Known}
+use Rattle.est_meaning.specs.declared.signal_set.SignalSet.{SignalSet}
 use Rattle.est_cells.specs.Gates.{gates, live_gates}
 use Rattle.est_cells.specs.Tables.{Cells, Parts, Sheet, sheet_size, emits, is_sure, is_possible}
 use Rattle.est_net.specs.Cells.{AllDecided, AllOpen, NoneTrue, cell_at, decided, learned}
 use Rattle.est_net.specs.Layout.{sure_codes, possible_codes, sheet_in}
-use Rattle.est_rounds.specs.Views.{set_of, env_of}
 use Rattle.est_rounds.specs.declared.acts.MustCan.{MustCan}
-use Rattle.est_rounds.specs.declared.signal_set.Env.{Env as Known}
-use Rattle.est_rounds.specs.declared.signal_set.SignalSet.{SignalSet}
 use Rattle.est_micro.specs.Sweeps.{entered, left, sure_told, may_told, swept_parts, swept, live_swept_parts, live_swept}
 use Rattle.est_micro.specs.declared.cells.StatementPlace.{StatementPlace}
 use Rattle.est_micro.specs.declared.cells.Swept.{Swept}

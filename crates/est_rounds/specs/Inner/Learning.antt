@@ -8,10 +8,11 @@ use Rattle.est_kernel.specs.declared.pause_set.PauseSet.{PauseSet}
 use Rattle.est_kernel.specs.declared.state.State.{State}
 use Rattle.est_meaning.specs.Rounds.{round, last_env}
 use Rattle.est_meaning.specs.States.{state_term}
+use Rattle.est_meaning.specs.Views.{env_of}
+use Rattle.est_meaning.specs.declared.signal_set.Env.{Env as Known}
 use Rattle.est_rounds.specs.Inner.Steps.{IsStep}
-use Rattle.est_rounds.specs.Views.{env_of, judged_by}
+use Rattle.est_rounds.specs.Views.{judged_by}
 use Rattle.est_rounds.specs.declared.judged.JudgedSignals.{JudgedSignals}
-use Rattle.est_rounds.specs.declared.signal_set.Env.{Env as Known}
 use Rattle.est_rounds.specs.declared.step.Step.{Step}
 
 -- the term that the state of a kernel stands for

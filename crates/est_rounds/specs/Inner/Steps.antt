@@ -12,8 +12,8 @@ use Rattle.est_kernel.specs.declared.statement.Statement.{Statement}
 use Rattle.est_meaning.specs.Environments.{Env}
 use Rattle.est_meaning.specs.Rules.{HasNoRule}
 use Rattle.est_meaning.specs.Steps.{StepsTo}
-use Rattle.est_rounds.specs.Views.{set_of, env_of}
-use Rattle.est_rounds.specs.declared.signal_set.Env.{Env as Known}
+use Rattle.est_meaning.specs.Views.{set_of, env_of}
+use Rattle.est_meaning.specs.declared.signal_set.Env.{Env as Known}
 use Rattle.est_rounds.specs.declared.step.Step.{Step}
 use Rattle.est_rounds.specs.declared.resume_step.Resumed.{Resumed}
 use Rattle.est_rounds.specs.declared.resume_step.Resumed.TheVariants.{Asleep, Stuck, Moved}

@@ -1,6 +1,6 @@
 use Rattle.std.proofs.Common.{arith, rules, sym}
 use Rattle.est_cells.proofs.Reach.{union_none}
-use Rattle.est_rounds.specs.Views.{set_of}
+use Rattle.est_meaning.specs.Views.{set_of}
 use Rattle.est_micro.proofs.Emissions.{both_added, loop_added, again_added, local_added}
 use Rattle.est_micro.proofs.Frames.{size_least}
 use Rattle.est_micro.proofs.decided.+add.Goals as goal

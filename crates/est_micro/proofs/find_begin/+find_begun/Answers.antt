@@ -1,7 +1,7 @@
 use Rattle.std.proofs.Common.{◌+◌, ◌∙◌, ap, ℕ, rules, arith, refl, subst, sym}
 use Rattle.est_kernel.specs.declared.statement.Statement.TheFolds.{the_lemmas}
 use Rattle.est_meaning.specs.Environments.{Env, and_status, opposite}
-use Rattle.est_rounds.specs.Views.{env_of}
+use Rattle.est_meaning.specs.Views.{env_of}
 use Rattle.est_net.specs.Extents.{HasExtents}
 use Rattle.est_cells.specs.Meaning.{begun}
 use Rattle.est_micro.specs.Inner.Passes.{Passes}

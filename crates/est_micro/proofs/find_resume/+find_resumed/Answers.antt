@@ -1,7 +1,7 @@
 use Rattle.std.proofs.Common.{◌+◌, ap, arith, ◌∙◌, ◌≡◌, ℕ, false, refl, subst, sym, true}
 use Rattle.est_kernel.specs.Pauses.{pauses_of}
 use Rattle.est_meaning.specs.Environments.{Env, and_status, opposite}
-use Rattle.est_rounds.specs.Views.{env_of}
+use Rattle.est_meaning.specs.Views.{env_of}
 use Rattle.est_micro.specs.Inner.Passes.{PassesOn, SidePasses}
 use Rattle.est_micro.specs.Inner.Sides.{IsFound}
 use Rattle.est_cells.specs.Meaning.{begun, resumed}

@@ -1,6 +1,6 @@
 use Rattle.std.proofs.Common.{sym}
 use Rattle.est_kernel.specs.Pauses.{pauses_of}
-use Rattle.est_rounds.specs.Views.{env_of}
+use Rattle.est_meaning.specs.Views.{env_of}
 use Rattle.est_micro.proofs.PassedNodes.{seq_on_later}
 use Rattle.est_micro.proofs.PassingOn.{ends_second}
 use Rattle.est_micro.proofs.find_resume.+sweep_to_end.Goals as goal

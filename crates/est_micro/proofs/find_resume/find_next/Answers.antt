@@ -1,7 +1,7 @@
 use Rattle.std.proofs.Common.{true}
 use Rattle.est_cells.specs.Meaning.{begun}
 use Rattle.est_kernel.specs.Pauses.{pauses_of}
-use Rattle.est_rounds.specs.Views.{env_of}
+use Rattle.est_meaning.specs.Views.{env_of}
 use Rattle.est_micro.proofs.FoundSides.{found_kept, found_seq_next_on, some_too}
 use Rattle.est_micro.proofs.PassedNodes.{seq_on_passed}
 use Rattle.est_micro.proofs.find_resume.find_next.Goals as goal

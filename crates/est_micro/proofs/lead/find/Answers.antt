@@ -1,8 +1,8 @@
 use Rattle.std.proofs.Common.{◌∙◌, true}
 use Rattle.est_kernel.specs.declared.state.State.TheVariants.{Fresh, Paused}
 use Rattle.est_meaning.specs.declared.status.Status.TheVariants.{Absent}
+use Rattle.est_meaning.specs.Views.{env_of}
 use Rattle.est_net.specs.Layout.{output_count}
-use Rattle.est_rounds.specs.Views.{env_of}
 use Rattle.est_micro.proofs.FoundSides.{fresh_found, paused_found, some_too}
 use Rattle.est_micro.proofs.KernelNets.{root_fits, root_within, still_net}
 use Rattle.est_micro.proofs.PassedNodes.{nothing_passed}

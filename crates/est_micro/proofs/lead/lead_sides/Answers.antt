@@ -1,7 +1,7 @@
 use Rattle.std.proofs.Common.{refl, sym, ◌∙◌, subst, Option, IfSome}
 use Rattle.est_kernel.specs.Bits.{bits}
+use Rattle.est_meaning.specs.Views.{env_of}
 use Rattle.est_net.specs.Kept.{Kept}
-use Rattle.est_rounds.specs.Views.{env_of}
 use Rattle.est_micro.specs.Inner.Sides.{IsOneOf}
 use Rattle.est_micro.specs.declared.sides.Side.{Side}
 use Rattle.est_micro.proofs.BegunNodes.{nothing_changes}

@@ -1,7 +1,7 @@
 use Rattle.std.proofs.Common.{◌≡◌, ℕ, Bool}
 use Rattle.est_kernel.specs.Bits.{bits}
+use Rattle.est_meaning.specs.Views.{env_of}
 use Rattle.est_net.specs.Kept.{kept}
-use Rattle.est_rounds.specs.Views.{env_of}
 use Rattle.est_micro.specs.Inner.Leads.{LeadsIn, SheetChanges}
 use Rattle.est_micro.specs.Parts.{AgreeBut}
 use Rattle.est_micro.specs.Runs.{Ready}

@@ -1,6 +1,6 @@
 use Rattle.std.proofs.Common.{◌≡◌, ◌+◌, Bool, true, sym, ◌∙◌, ap, subst, Bor, Option, IfSome}
 use Rattle.est_kernel.specs.declared.pause_set.PauseSet.{PauseSet}
-use Rattle.est_rounds.specs.Views.{env_of, set_of}
+use Rattle.est_meaning.specs.Views.{env_of, set_of}
 use Rattle.est_cells.specs.Tables.{sheet_size}
 use Rattle.est_micro.specs.Inner.Views.{IsBegun, IsFresh, IsResumed}
 use Rattle.est_micro.specs.Sweeps.{told}

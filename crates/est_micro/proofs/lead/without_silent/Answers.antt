@@ -1,6 +1,6 @@
 use Rattle.std.proofs.Common.{◌≡◌, ◌&&◌, ◌||◌, ℕ, true, not, refl, ap, sym, ◌∙◌}
 use Rattle.est_kernel.specs.Bits.{bits}
-use Rattle.est_rounds.specs.Views.{env_of}
+use Rattle.est_meaning.specs.Views.{env_of}
 use Rattle.est_micro.proofs.LeadRounds.{IsAsked, both_of, is_asked, silent_absent, silent_leads, was_asked}
 use Rattle.est_micro.proofs.lead.without_silent.Goals as goal
 

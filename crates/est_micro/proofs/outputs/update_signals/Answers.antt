@@ -4,8 +4,8 @@ use Rattle.est_kernel.specs.Interfaces.{emittable}
 use Rattle.est_kernel.specs.declared.interface.Declaration.{Declaration}
 use Rattle.est_meaning.specs.Rounds.{how_many}
 use Rattle.est_meaning.specs.declared.status.Status.{Status}
+use Rattle.est_meaning.specs.declared.signal_set.Env.{Env as Known}
 use Rattle.est_rounds.specs.declared.acts.MustCan.{MustCan}
-use Rattle.est_rounds.specs.declared.signal_set.Env.{Env as Known}
 use Rattle.est_net.specs.Layout.{output_count}
 use Rattle.est_micro.specs.Inner.Outputs.{AreSignalsTold, told_of}
 use Rattle.est_micro.specs.Runs.{AreSignalsUpdated}

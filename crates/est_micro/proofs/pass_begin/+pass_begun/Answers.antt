@@ -1,6 +1,6 @@
 use Rattle.std.proofs.Common.{rules, arith, refl, sym}
 use Rattle.est_kernel.specs.declared.statement.Statement.TheFolds.{the_lemmas}
-use Rattle.est_rounds.specs.Views.{env_of}
+use Rattle.est_meaning.specs.Views.{env_of}
 use Rattle.est_micro.proofs.BegunNodes.{within_back}
 use Rattle.est_micro.proofs.Frames.{size_least}
 use Rattle.est_micro.proofs.KeptExtents.{still_at}

@@ -1,4 +1,4 @@
-use Rattle.est_rounds.specs.Views.{env_of}
+use Rattle.est_meaning.specs.Views.{env_of}
 use Rattle.est_micro.specs.Inner.Views.{IsBegun}
 use Rattle.est_micro.proofs.Passing.{sweep_passes}
 use Rattle.est_micro.proofs.FreshCells.{fresh_not}

@@ -1,6 +1,6 @@
 use Rattle.std.proofs.Common.{◌∙◌, arith, refl, sym, true, false, ◌≡◌}
 use Rattle.est_kernel.specs.Pauses.{pauses_of}
-use Rattle.est_rounds.specs.Views.{env_of}
+use Rattle.est_meaning.specs.Views.{env_of}
 use Rattle.est_micro.proofs.Frames.{size_least}
 use Rattle.est_micro.proofs.PassedNodes.{ends_by, loop_on_passed, nothing_passed_on, par_on_passed}
 use Rattle.est_micro.proofs.PassedNodes.{seq_on_later, seq_on_passed}

@@ -1,5 +1,5 @@
 use Rattle.est_kernel.specs.Pauses.{pauses_of}
-use Rattle.est_rounds.specs.Views.{env_of}
+use Rattle.est_meaning.specs.Views.{env_of}
 use Rattle.est_micro.specs.Inner.Views.{IsResumed}
 use Rattle.est_micro.proofs.PassingOn.{sweep_passes_on}
 use Rattle.est_micro.proofs.FreshCells.{fresh_not}

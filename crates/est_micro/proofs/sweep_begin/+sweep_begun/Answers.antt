@@ -2,8 +2,8 @@ use Rattle.std.proofs.Common.{ap, arith, false, ◌∙◌, ◌+◌, rules}
 use Rattle.est_kernel.specs.declared.statement.Statement.TheFolds.{the_lemmas}
 use Rattle.est_meaning.specs.Environments.{with_local}
 use Rattle.est_meaning.specs.declared.status.Status.{Status}
+use Rattle.est_meaning.specs.Views.{env_of}
 use Rattle.est_cells.specs.Tables.{sheet_size}
-use Rattle.est_rounds.specs.Views.{env_of}
 use Rattle.est_micro.proofs.BegunNodes.{present_begun, seq_begun, par_begun, par_begun_back}
 use Rattle.est_micro.proofs.BegunNodes.{suspend_begun, trap_begun, again_begun}
 use Rattle.est_micro.proofs.BegunNodes.{loop_begun, local_begun, within_one, within_two, within_next, within_local}

@@ -5,7 +5,7 @@ use Rattle.est_meaning.specs.Environments.{verdict, with_local}
 use Rattle.est_cells.specs.Tables.{sheet_size}
 use Rattle.est_meaning.specs.declared.status.Status.{Status}
 use Rattle.est_meaning.specs.declared.status.Status.TheVariants.{Absent}
-use Rattle.est_rounds.specs.Views.{env_of}
+use Rattle.est_meaning.specs.Views.{env_of}
 use Rattle.est_micro.proofs.BegunNodes.{within_after, within_back, within_first, within_first_local, within_same}
 use Rattle.est_micro.proofs.BegunNodes.{part_at, within_two_same}
 use Rattle.est_micro.proofs.DecidedSheets.{read_resumed}

@@ -5,7 +5,7 @@ use Rattle.est_kernel.specs.View.{query_of}
 use Rattle.est_kernel.specs.declared.statement.Test.TheViews.{out-Operands}
 use Rattle.est_meaning.specs.Environments.{joint_status, status_of}
 use Rattle.est_meaning.proofs.TestLemmas.{joined_with, operands_status}
-use Rattle.est_rounds.specs.Views.{env_of}
+use Rattle.est_meaning.specs.Views.{env_of}
 use Rattle.est_rounds.proofs.answer.+answer.Goals as goal
 
 pub answer_to_joined-returns : goal.answer_to_joined-returns

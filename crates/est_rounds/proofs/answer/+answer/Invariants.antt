@@ -4,7 +4,7 @@ use Rattle.est_kernel.specs.View.{query_of}
 use Rattle.est_kernel.specs.declared.statement.Test.TheViews.{out-Operands}
 use Rattle.est_meaning.specs.Environments.{joint_status, status_of}
 use Rattle.est_meaning.proofs.TestLemmas.{joined_with}
-use Rattle.est_rounds.specs.Views.{env_of}
+use Rattle.est_meaning.specs.Views.{env_of}
 use Rattle.est_rounds.proofs.answer.+answer.Given as goal
 
 abbrev pub invariant-answer_to_joined-loop-test : goal.invariant-answer_to_joined-loop-test

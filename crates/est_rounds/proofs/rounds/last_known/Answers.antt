@@ -1,6 +1,6 @@
 use Rattle.std.proofs.Common.{◌≡◌, sym, ap, ◌∙◌, rules}
 use Rattle.est_meaning.proofs.SettledLemmas.{settled}
-use Rattle.est_rounds.specs.Views.{env_of}
+use Rattle.est_meaning.specs.Views.{env_of}
 use Rattle.est_rounds.proofs.rounds.last_known.Goals as goal
 
 pub returns-then-eq : goal.returns-then-eq

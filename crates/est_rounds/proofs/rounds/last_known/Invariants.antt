@@ -2,7 +2,8 @@ use Rattle.std.proofs.Common.{◌≡◌}
 use Rattle.est_kernel.specs.Bits.{bits}
 use Rattle.est_meaning.specs.Rounds.{first_env, env_after}
 use Rattle.est_meaning.specs.States.{state_term}
-use Rattle.est_rounds.specs.Views.{env_of, judged_by}
+use Rattle.est_meaning.specs.Views.{env_of}
+use Rattle.est_rounds.specs.Views.{judged_by}
 use Rattle.est_rounds.proofs.rounds.last_known.Given as goal
 
 abbrev pub invariant-loop-i : goal.invariant-loop-i

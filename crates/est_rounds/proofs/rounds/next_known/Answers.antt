@@ -1,7 +1,7 @@
 use Rattle.std.proofs.Common.{ap, refl}
 use Rattle.est_meaning.specs.MustCan.{Acts}
 use Rattle.est_meaning.specs.States.{state_term}
-use Rattle.est_rounds.specs.Views.{env_of}
+use Rattle.est_meaning.specs.Views.{env_of}
 use Rattle.est_rounds.proofs.Known.{next_known_is}
 use Rattle.est_rounds.proofs.rounds.next_known.Goals as goal
 

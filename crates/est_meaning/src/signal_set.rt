@@ -7,11 +7,11 @@ ghost use Rattle.est_kernel.specs.Term.{inner};
 ghost use Rattle.est_kernel.specs.View.{name_of};
 ghost use Rattle.est_meaning.specs.Signals.{no_signals, only, union, without};
 ghost use Rattle.est_meaning.specs.Environments.{verdict, with_local};
-ghost use Rattle.est_rounds.specs.Views.{set_of, env_of, with_member};
+ghost use Rattle.est_meaning.specs.Views.{set_of, env_of, with_member};
 
+use crate::status::Status;
 use est_kernel::mask;
 use est_kernel::statement::{LocalSignal, Signal};
-use est_meaning::status::Status;
 
 /// A set of signals.
 #[derive(Clone, Copy, PartialEq, Eq)]

@@ -1,8 +1,8 @@
 use mathlib.Core.Path.{fun_ext}
 use Rattle.est_kernel.specs.Term.{outer, inner}
 use Rattle.est_meaning.specs.Signals.{union}
-use Rattle.est_rounds.specs.Views.{set_of}
-use Rattle.est_rounds.proofs.signal_set.union_of.Goals as goal
+use Rattle.est_meaning.proofs.signal_set.union_of.Goals as goal
+use Rattle.est_meaning.specs.Views.{set_of}
 
 pub returns : goal.returns
 unfolding set_of union

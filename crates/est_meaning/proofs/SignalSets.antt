@@ -5,10 +5,10 @@ use mathlib.Core.Path.{fun_ext}
 use Rattle.est_kernel.specs.Term.{outer, inner}
 use Rattle.est_meaning.specs.Signals.{Signals, no_signals, only, without, same_name}
 use Rattle.est_meaning.specs.Environments.{verdict, with_local}
+use Rattle.est_meaning.specs.Views.{set_of, env_of, with_member}
+use Rattle.est_meaning.specs.declared.signal_set.SignalSet.{SignalSet}
 use Rattle.est_kernel.specs.Bits.{bits}
-use Rattle.est_rounds.specs.Views.{set_of, env_of, with_member}
 use Rattle.est_kernel.proofs.Masks.{bits_zero}
-use Rattle.est_rounds.specs.declared.signal_set.SignalSet.{SignalSet}
 
 -- two empty masks
 pub no_signals_set : set_of (record { interface = 0; local = 0 }) ≡ no_signals

@@ -1,5 +1,5 @@
-use Rattle.est_rounds.specs.Views.{env_of, set_of}
-use Rattle.est_rounds.proofs.signal_set.status_of_signal.Goals as goal
+use Rattle.est_meaning.proofs.signal_set.status_of_signal.Goals as goal
+use Rattle.est_meaning.specs.Views.{env_of, set_of}
 
 pub returns-in-Interface : goal.returns-in-Interface
 unfolding env_of set_of
