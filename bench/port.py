@@ -33,7 +33,7 @@ CRATES = {
     "est_kernel": ("code_set", "completion", "mask", "pause_set", "statement"),
     "est_meaning": ("signal_set", "status"),
     "est_rounds": ("acts", "answer", "engine", "judged", "resume", "resume_step", "rounds", "start", "step"),
-    "est_net": ("cell_set", "emissions", "extents", "net", "pause_run", "reach", "signal_masks", "table"),
+    "est_net": ("cell_set", "emissions", "extents", "net", "pause_run", "reach", "reading", "table"),
     "est_micro": ("cells", "closing", "decided", "direction", "extents", "find_begin", "find_resume", "idle", "lead", "learning", "micro", "must_can", "next_pauses", "outputs", "pass_begin",
                   "pass_resume", "passes", "question", "settling",
                   "side_order", "sides", "sweep_begin", "sweep_kind", "sweep_resume"),

@@ -1,9 +1,13 @@
 -- Sets of signals by their masks.
-use Rattle.std.proofs.Common.{◌≡◌, ◌≢◌, ℕ, Bool, true, false, not, ◌&&◌, cond, nat_eq, refl, ap, sym, ◌∙◌, inl, inr}
+use Rattle.std.proofs.Common.{◌≡◌, ◌≢◌, ◌<◌, ◌≤◌, ◌^◌, ℕ, Bool, true, false, not, ◌&&◌, cond, nat_eq, Decides}
+use Rattle.std.proofs.Common.{refl, ap, sym, ◌∙◌, inl, inr, arith, w64}
+use Rattle.std.specs.Int.{trailing_zeros}
 use Rattle.std.proofs.lemmas.Bool.{eq-eqb, ne_eqb, cases_eq}
+use Rattle.std.proofs.lemmas.Nat.Bits.{bit_at-trailing_zeros}
 use mathlib.Core.Path.{fun_ext}
-use Rattle.est_kernel.specs.Term.{outer, inner}
-use Rattle.est_meaning.specs.Signals.{Signals, no_signals, only, without, same_name}
+use Rattle.est_kernel.specs.Masks.{HasNameBit}
+use Rattle.est_kernel.specs.Term.{Name, outer, inner}
+use Rattle.est_meaning.specs.Signals.{Signals, no_signals, only, without, same_name, Meet}
 use Rattle.est_meaning.specs.Environments.{verdict, with_local}
 use Rattle.est_meaning.specs.Views.{set_of, env_of, with_member}
 use Rattle.est_meaning.specs.declared.signal_set.SignalSet.{SignalSet}
@@ -62,3 +66,60 @@ set_env p q p' q' k b c e f =
     go : (t b c x y : Bool) → verdict (cond t b x) (cond t c y) ≡ cond t (verdict b c) (verdict x y)
     go true b c x y = refl
     go false b c x y = refl
+
+-- a local signal whose number has no bit is none of those that have one
+pub none_with_bit : (k : ℕ) → 64 ≤ k → (t : Name) → HasNameBit t → false ≡ only (inner k) t
+unfolding only
+none_with_bit k l (outer n) b = refl
+none_with_bit k l (inner n) b = sym (ne_eqb k n (λ e. absurd (omega arith)))
+
+both_true : (x y : Bool) → (x && y) ≡ true → (x ≡ true) × (y ≡ true)
+both_true true true e = (refl, refl)
+both_true true false e = let z : false ≡ true = e in cc
+both_true false y e = let z : false ≡ true = e in cc
+
+-- a mask that is not 0 has a bit
+lowest : (x : ℕ) → x ≢ 0 → x < 2 ^ 64 → bits x (trailing_zeros w64 x) ≡ true
+unfolding bits
+lowest x d l = ap (λ (b : ℕ). nat_eq b 1) (bit_at-trailing_zeros w64 x (omega arith) l).1
+
+-- two masks that have a bit in common
+shared_bit : (y z x : ℕ) → x ≢ 0 → x < 2 ^ 64 → ((n : ℕ) → bits x n ≡ (bits y n && bits z n))
+    → (bits y (trailing_zeros w64 x) ≡ true) × (bits z (trailing_zeros w64 x) ≡ true)
+shared_bit y z x d l e = both_true _ _ (sym (e (trailing_zeros w64 x)) ∙ lowest x d l)
+
+-- no bit is in two masks that have none in common
+unshared : (y z x : ℕ) → x ≡ 0 → ((n : ℕ) → bits x n ≡ (bits y n && bits z n)) → (n : ℕ) → bits y n ≡ true
+    → bits z n ≡ true → ⊥
+unshared y z x g e n p q =
+    let f : false ≡ true = sym (bits_zero n) ∙ (ap (λ w. bits w n) (sym g) ∙ (e n ∙ rw (p, q) refl)) in cc
+
+-- two sets with a signal of the interface in common
+pub meet_outer : (a b : SignalSet) (x : ℕ) → x ≢ 0 → x < 2 ^ 64
+    → ((n : ℕ) → bits x n ≡ (bits a.interface n && bits b.interface n)) → Meet (set_of a) (set_of b)
+unfolding set_of
+meet_outer a b x d l e =
+    let k = shared_bit a.interface b.interface x d l e in
+    record { common = outer (trailing_zeros w64 x); in_first = k.0; in_second = k.1 }
+
+-- two sets with none of the interface in common meet where they have a local signal in common
+pub meet_inner : (a b : SignalSet) (x y : ℕ) → x ≡ 0 → y < 2 ^ 64
+    → ((n : ℕ) → bits x n ≡ (bits a.interface n && bits b.interface n))
+    → ((n : ℕ) → bits y n ≡ (bits a.local n && bits b.local n))
+    → Decides (not (nat_eq y 0)) (Meet (set_of a) (set_of b))
+unfolding set_of
+meet_inner a b x y g l e f = elim (cases_eq y 0) [
+  | inl h ↦ (
+    λ r. let z : false ≡ true = ap not (sym (eq-eqb y 0 h)) ∙ r in cc,
+    λ m. absurd (none_common m.common h m.in_first m.in_second),
+  )
+  | inr d ↦ (
+    λ r. let k = shared_bit a.local b.local y d l f in
+        record { common = inner (trailing_zeros w64 y); in_first = k.0; in_second = k.1 },
+    λ m. ap not (ne_eqb y 0 d),
+  )
+]
+  where
+    none_common : (t : Name) → y ≡ 0 → set_of a t ≡ true → set_of b t ≡ true → ⊥
+    none_common (outer n) h p q = unshared a.interface b.interface x g e n p q
+    none_common (inner n) h p q = unshared a.local b.local y h f n p q

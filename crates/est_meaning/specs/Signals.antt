@@ -1,5 +1,5 @@
 -- Sets of signals, by their tests (this project's own form).
-use Rattle.std.specs.Prelude.{ℕ, Bool, false, not, ◌&&◌, ◌||◌, nat_eq}
+use Rattle.std.specs.Prelude.{◌≡◌, ℕ, Bool, true, false, not, ◌&&◌, ◌||◌, nat_eq}
 use Rattle.est_kernel.specs.Term.{Name, outer, inner}
 
 -- a set of signals answers for each name whether it is a member
@@ -28,3 +28,9 @@ union a b s = a s || b s
 -- all members but this local signal
 unfoldable pub without : ℕ → Signals → Signals
 without s a t = not (same_name (inner s) t) && a t
+
+-- a signal is a member of both sets
+pub record Meet (a b : Signals) : Type 0 where
+  pub common : Name
+  pub in_first : a common ≡ true
+  pub in_second : b common ≡ true

@@ -1,11 +1,11 @@
 //! Sets of signals as masks, and what is known of each signal.
 
-ghost use Rattle.std.specs.Prelude.{◌≡◌, ◌<◌};
+ghost use Rattle.std.specs.Prelude.{◌≡◌, ◌<◌, Decides};
 ghost use Rattle.est_kernel.specs.Bits.{bits};
-ghost use Rattle.est_kernel.specs.Masks.{HasSignalBit};
-ghost use Rattle.est_kernel.specs.Term.{inner};
+ghost use Rattle.est_kernel.specs.Masks.{HasNameBit, HasSignalBit};
+ghost use Rattle.est_kernel.specs.Term.{Name, inner};
 ghost use Rattle.est_kernel.specs.View.{name_of};
-ghost use Rattle.est_meaning.specs.Signals.{no_signals, only, union, without};
+ghost use Rattle.est_meaning.specs.Signals.{no_signals, only, union, without, Meet};
 ghost use Rattle.est_meaning.specs.Environments.{verdict, with_local};
 ghost use Rattle.est_meaning.specs.Views.{set_of, env_of, with_member};
 
@@ -49,6 +49,21 @@ pub fn only_signal(s: Signal) -> SignalSet
     }
 }
 
+/// The set of this signal alone, or the empty set where it is a local signal whose number has no
+/// bit.
+pub fn only_with_bit(s: Signal) -> SignalSet
+    ensures { (t : Name) → HasNameBit t → set_of result t ≡ only (name_of s) t }
+{
+    match s {
+        Signal::Interface(_) => only_signal(s),
+        Signal::Local(local) => if local.index < 64 {
+            only_signal(s)
+        } else {
+            no_signal()
+        },
+    }
+}
+
 /// The members of either set.
 pub fn union_of(a: SignalSet, b: SignalSet) -> SignalSet
     ensures { set_of result ≡ union (set_of a) (set_of b) }
@@ -76,6 +91,13 @@ pub fn has_local(a: SignalSet, s: LocalSignal) -> bool
     ensures { result ≡ set_of a (inner s.index) }
 {
     mask::has(a.local, s.index as u8)
+}
+
+/// Whether the sets have a common member.
+pub fn meets(a: SignalSet, b: SignalSet) -> bool
+    ensures { Decides result (Meet (set_of a) (set_of b)) }
+{
+    mask::intersection(a.interface, b.interface) != 0 || mask::intersection(a.local, b.local) != 0
 }
 
 /// What is known of each signal: those that are present, and those that may be.

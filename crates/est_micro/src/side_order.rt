@@ -15,8 +15,8 @@ ghost use Rattle.est_net.specs.Owners.{statements};
 
 use est_kernel::mask;
 use est_kernel::statement::Statement;
+use est_meaning::signal_set::{self, SignalSet};
 use est_net::net::Net;
-use est_net::signal_masks::SignalMasks;
 
 /// How often an order has to go against the text, and with it, before each run begins with it.
 /// Where it does so less often, a few sweeps do, if the signals are present.
@@ -42,22 +42,22 @@ pub struct SideOrder {
 #[derive(Drop)]
 struct Uses {
     count: usize,
-    reads: [SignalMasks; 64],
-    emits: [SignalMasks; 64],
+    reads: [SignalSet; 64],
+    emits: [SignalSet; 64],
     /// Whether there are more sides than these.
     are_more: bool,
     ghost few: { count ≤ 64 },
 }
 
 /// The signals that a statement emits anywhere.
-fn emitted_in(s: &Statement) -> SignalMasks
+fn emitted_in(s: &Statement) -> SignalSet
     requires { FitsMasks s.now }
 {
     match s {
-        Statement::Nothing | Statement::Pause(_) | Statement::Exit(_) => SignalMasks::none(),
-        Statement::Emit(signal) => SignalMasks::of(*signal),
+        Statement::Nothing | Statement::Pause(_) | Statement::Exit(_) => signal_set::no_signal(),
+        Statement::Emit(signal) => signal_set::only_signal(*signal),
         Statement::Present(_, p, q) | Statement::Seq(p, q) | Statement::Par(p, q) => {
-            emitted_in(p).union(emitted_in(q))
+            signal_set::union_of(emitted_in(p), emitted_in(q))
         }
         Statement::Suspend(_, p)
         | Statement::Loop(p)
@@ -71,14 +71,14 @@ impl Uses {
     fn none() -> Uses {
         Uses {
             count: 0,
-            reads: [SignalMasks::none(); 64],
-            emits: [SignalMasks::none(); 64],
+            reads: [signal_set::no_signal(); 64],
+            emits: [signal_set::no_signal(); 64],
             are_more: false,
         }
     }
 
     /// Notes what one more side reads and emits.
-    fn push(&mut self, reads: SignalMasks, emits: SignalMasks) {
+    fn push(&mut self, reads: SignalSet, emits: SignalSet) {
         if self.count < 64 {
             self.reads[self.count] = reads;
             self.emits[self.count] = emits;
@@ -104,13 +104,13 @@ impl Uses {
 
     /// Whether sides read what sides emit.
     fn tell_each_other(&self) -> bool {
-        let mut reads = SignalMasks::none();
-        let mut emits = SignalMasks::none();
+        let mut reads = signal_set::no_signal();
+        let mut emits = signal_set::no_signal();
         for side in 0..self.count {
-            reads = reads.union(self.reads[side]);
-            emits = emits.union(self.emits[side]);
+            reads = signal_set::union_of(reads, self.reads[side]);
+            emits = signal_set::union_of(emits, self.emits[side]);
         }
-        reads.meets(emits)
+        signal_set::meets(reads, emits)
     }
 
     /// Whether a side reads what another emits.
@@ -118,7 +118,7 @@ impl Uses {
         requires side { side < self.now.count }
         requires other { other < self.now.count }
     {
-        self.reads[side].meets(self.emits[other])
+        signal_set::meets(self.reads[side], self.emits[other])
     }
 }
 

@@ -10,8 +10,9 @@ ghost use Rattle.est_net.specs.Extents.{HasExtents, IsExtent, IsRunOf};
 ghost use Rattle.est_net.specs.Inner.Extending.{ArePartsAdded, IsExtended};
 
 use crate::pause_run::PauseRun;
-use crate::signal_masks::{SignalMasks, read_by};
+use crate::reading::read_by;
 use est_kernel::statement::{PauseIndex, Statement, Test};
+use est_meaning::signal_set::{self, SignalSet};
 use std::alloc::{AllocError, Global};
 
 /// What is known of a statement before any instant.
@@ -26,7 +27,7 @@ pub struct Extent {
     /// Its pauses, where their numbers are a run.
     pub pauses: Option<PauseRun>,
     /// The signals that tests in it read.
-    pub reads: SignalMasks,
+    pub reads: SignalSet,
 }
 
 impl Extent {
@@ -91,7 +92,7 @@ fn leaf(cells: usize, pauses: PauseRun) -> Extent
         again: cells,
         statements: 1,
         pauses: Some(pauses),
-        reads: SignalMasks::none(),
+        reads: signal_set::no_signal(),
     }
 }
 
@@ -103,7 +104,7 @@ fn with_test(rest: Extent, test: &Test) -> Extent
     ensures pauses { result.pauses ≡ rest.pauses }
 {
     Extent {
-        reads: rest.reads.union(read_by(test)),
+        reads: signal_set::union_of(rest.reads, read_by(test)),
         ..rest
     }
 }
@@ -152,7 +153,7 @@ fn with_body(own: usize, p: &Extent) -> Result<Extent, AllocError>
 
 /// What is known of a statement that has these cells of its own and these two parts, and whose own
 /// test, if it has one, reads these signals.
-fn with_parts(own: usize, p: &Extent, q: &Extent, reads: SignalMasks) -> Result<Extent, AllocError>
+fn with_parts(own: usize, p: &Extent, q: &Extent, reads: SignalSet) -> Result<Extent, AllocError>
     ensures main { IfOk result (λ x. x.main ≡ own + p.now.main + q.now.main) }
     ensures again { IfOk result (λ x. x.again ≡ own + p.now.again + q.now.again) }
     ensures statements { IfOk result
@@ -167,7 +168,7 @@ fn with_parts(own: usize, p: &Extent, q: &Extent, reads: SignalMasks) -> Result<
         again: add(first.again, q.again)?,
         statements: add(first.statements, q.statements)?,
         pauses: joined(p.pauses, q.pauses),
-        reads: reads.union(p.reads).union(q.reads),
+        reads: signal_set::union_of(reads, signal_set::union_of(p.reads, q.reads)),
     })
 }
 
@@ -178,7 +179,7 @@ fn add_parts(extents: &mut Vec<Extent>, s: &Statement, traps: usize) -> Result<E
     requires { traps + trap_depth (term_of s.now) < 65536 }
     ensures { IfOk result (ArePartsAdded s.now traps extents.old.items extents.new.items) }
 {
-    let none = SignalMasks::none();
+    let none = signal_set::no_signal();
     match s {
         Statement::Nothing => Ok(leaf(traps + 3, no_pause())),
         Statement::Emit(_) => Ok(leaf(traps + 3, no_pause())),
@@ -214,7 +215,7 @@ fn add_extents_of_two(
     p: &Statement,
     q: &Statement,
     traps: usize,
-    reads: SignalMasks,
+    reads: SignalSet,
 ) -> Result<Extent, AllocError>
     requires first { traps + trap_depth (term_of p.now) < 65536 }
     requires second { traps + trap_depth (term_of q.now) < 65536 }

@@ -14,5 +14,5 @@ pub mod net;
 pub mod owners;
 pub mod pause_run;
 pub mod reach;
-pub mod signal_masks;
+mod reading;
 mod table;
