@@ -1,9 +1,7 @@
 -- Parts of the inputs, a signal at a time.
-use Rattle.std.proofs.Common.{◌≡◌, ◌≢◌, ◌∙◌, ℕ, zero, suc, ◌<◌, ◌≤◌, ◌+◌, ◌/◌, ◌%◌, ◌^◌, Bool, true, false, nat_eq, w64}
+use Rattle.std.proofs.Common.{◌≡◌, ◌≢◌, ◌∙◌, ℕ, zero, suc, ◌<◌, ◌≤◌, ◌+◌, ◌/◌, ◌%◌, ◌^◌, Bool, true, false, nat_eq}
 use Rattle.std.proofs.Common.{sym, ap, arith, inl, inr}
-use Rattle.std.specs.Int.{trailing_zeros}
 use Rattle.std.proofs.lemmas.Bool.{cases_eq, cases_lt, false≢true}
-use Rattle.std.proofs.lemmas.Nat.Bits.{bit_at-trailing_zeros}
 use Rattle.est_kernel.specs.Bits.{bits}
 use Rattle.est_kernel.proofs.Masks.{bits_above, bits_zero, bits-suc}
 use Rattle.est_relations.proofs.Members.{nat_same}
@@ -81,8 +79,3 @@ part_begins may unasked e = record {
   offered = λ n h. absurd (false≢true (sym (bits_zero n) ∙ h));
   apart = λ n h. bits_zero n;
 }
-
--- the first bit of a mask that has one
-pub least_is : (a : ℕ) → a ≢ 0 → a < 2 ^ 64 → bits a (trailing_zeros w64 a) ≡ true
-unfolding bits
-least_is a d w = ap (λ y. nat_eq y 1) (bit_at-trailing_zeros w64 a (omega arith) w).1

@@ -73,20 +73,19 @@ unfolding only
 none_with_bit k l (outer n) b = refl
 none_with_bit k l (inner n) b = sym (ne_eqb k n (λ e. absurd (omega arith)))
 
-both_true : (x y : Bool) → (x && y) ≡ true → (x ≡ true) × (y ≡ true)
-both_true true true e = (refl, refl)
-both_true true false e = let z : false ≡ true = e in cc
-both_true false y e = let z : false ≡ true = e in cc
-
--- a mask that is not 0 has a bit
-lowest : (x : ℕ) → x ≢ 0 → x < 2 ^ 64 → bits x (trailing_zeros w64 x) ≡ true
+-- the first bit of a mask that has one
+pub least_is : (x : ℕ) → x ≢ 0 → x < 2 ^ 64 → bits x (trailing_zeros w64 x) ≡ true
 unfolding bits
-lowest x d l = ap (λ (b : ℕ). nat_eq b 1) (bit_at-trailing_zeros w64 x (omega arith) l).1
+least_is x d l = ap (λ (b : ℕ). nat_eq b 1) (bit_at-trailing_zeros w64 x (omega arith) l).1
+
+in_both : (b c d : Bool) → b ≡ true → b ≡ (c && d) → (c ≡ true) × (d ≡ true)
+in_both b true d h e = (refl, sym e ∙ h)
+in_both b false d h e = let z : false ≡ true = sym e ∙ h in cc
 
 -- two masks that have a bit in common
 shared_bit : (y z x : ℕ) → x ≢ 0 → x < 2 ^ 64 → ((n : ℕ) → bits x n ≡ (bits y n && bits z n))
     → (bits y (trailing_zeros w64 x) ≡ true) × (bits z (trailing_zeros w64 x) ≡ true)
-shared_bit y z x d l e = both_true _ _ (sym (e (trailing_zeros w64 x)) ∙ lowest x d l)
+shared_bit y z x d l e = in_both _ _ _ (least_is x d l) (e (trailing_zeros w64 x))
 
 -- no bit is in two masks that have none in common
 unshared : (y z x : ℕ) → x ≡ 0 → ((n : ℕ) → bits x n ≡ (bits y n && bits z n)) → (n : ℕ) → bits y n ≡ true

@@ -1,5 +1,5 @@
 use Rattle.est_kernel.proofs.Masks.{bits_zero}
-use Rattle.est_cover.proofs.PartLemmas.{least_is}
+use Rattle.est_meaning.proofs.SignalSets.{least_is}
 use Rattle.est_cover.proofs.part.first_in.Goals as goal
 
 pub returns-then-signals-eq0 : goal.returns-then-signals-eq0
