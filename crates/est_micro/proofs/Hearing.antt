@@ -64,15 +64,18 @@ told_less e l x k h n = go (x n) refl (l n) refl
     go true i Present j = subst (λ (z : Status). IsBelow z (e n)) j (k n)
     go true i Absent j = subst (λ (z : Status). IsBelow z (e n)) j (k n)
 
-pub told_heard : (e l : Env) (x z : Signals) → Heard z e l → Heard z e (told l x)
+pub told_doubt : (l : Env) (x : Signals) (n : Name) → told l x n ≡ Unknown → l n ≡ Unknown
 unfolding told
-told_heard e l x z h n i j = h n i (go (x n) (l n) j)
+told_doubt l x n j = go (x n) (l n) j
   where
     go : (b : Bool) (v : Status) → cond b (learned v Present) v ≡ Unknown → v ≡ Unknown
     go false v k = k
     go true Unknown k = refl
     go true Present k = k
     go true Absent k = k
+
+pub told_heard : (e l : Env) (x z : Signals) → Heard z e l → Heard z e (told l x)
+told_heard e l x z h n i j = h n i (told_doubt l x n j)
 
 pub told_same : (l : Env) (x : Signals) → Seen x l → told l x ≡ l
 unfolding told
@@ -85,7 +88,7 @@ told_same l x h = fun_ext (λ n. go n (x n) refl (l n) refl)
     go n true i Absent j = refl
 
 -- inside a binder
-is_local : (s : ℕ) (n : Name) → same_name (inner s) n ≡ true → inner s ≡ n
+pub is_local : (s : ℕ) (n : Name) → same_name (inner s) n ≡ true → inner s ≡ n
 is_local s (inner m) h = ap inner (eqb-true s m h)
 is_local s (outer m) h = let z : false ≡ true = h in cc
 

@@ -19,10 +19,14 @@ mod OpenTables
 mod FullTables
 mod Settles
 mod StatementParts
-mod FoundSides
+mod Placing
+mod PartEnds
+mod PartSteps
 mod ParSides
-mod LedSides
-mod LeadRounds
+mod SweptParts
+mod WalkedScopes
+mod Walks
+mod WalkedRoots
 mod AllDecided
 mod Outcomes
 mod PartReactions

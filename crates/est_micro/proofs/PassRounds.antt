@@ -32,7 +32,7 @@ use Rattle.est_net.specs.Layout.{output_count, rank, sheet_in}
 use Rattle.est_net.specs.declared.emissions.Emission.{Emission}
 use Rattle.est_rounds.specs.declared.acts.MustCan.{MustCan}
 use Rattle.est_micro.specs.Inner.Hearing.{Heard}
-use Rattle.est_micro.specs.Inner.Leads.{last_of}
+use Rattle.est_micro.specs.Inner.Walks.{last_of}
 use Rattle.est_micro.specs.Parts.{AgreeBut, AreInputsAlone, opened}
 use Rattle.est_micro.specs.Inner.Passes.{IsPassRound, SheetPasses}
 use Rattle.est_micro.specs.Runs.{AreSignalsUpdated, Ready, output_cells, output_gate, table_of}
@@ -158,14 +158,6 @@ ready_by unasked k x inputs e old new p ready = record {
       (output_cells k.interface old) (output_cells k.interface new) p.same);
   offered = λ n l o z. p.same n l o ∙ ready.offered n l o z;
 }
-
--- what holds before a pass holds after it
-pub ready_passed : (unasked : ℕ → Bool) (k : Kernel) (x : State) (inputs : ℕ → Bool) (e : Known)
-    (old new : List Status) → AreInputsAlone k.interface unasked
-    → SheetPasses k.root x (output_count k.interface) (env_of e) old new → Ready unasked k x inputs old e
-    → Ready unasked k x inputs new e
-ready_passed unasked k x inputs e old new a h ready =
-    ready_by unasked k x inputs e old new (pass_made unasked k x inputs e old new a ready h) ready
 
 -- nothing was decided
 pub passed_nothing : (unasked : ℕ → Bool) (k : Kernel) (x : State) (inputs : ℕ → Bool) (e : Known)

@@ -1,5 +1,5 @@
 -- A pass over the parts of a statement, one after another, is one over the statement.
-use Rattle.std.specs.Prelude.{◌≡◌, ◌+◌, ◌&&◌, ℕ, Bool, true, false, List, length, ltb}
+use Rattle.std.specs.Prelude.{◌≡◌, ◌+◌, ◌&&◌, ℕ, Bool, true, false, List, ltb}
 use Rattle.std.proofs.Common.{refl, ap, sym, ◌∙◌, arith, subst}
 use Rattle.std.proofs.lemmas.Bool.{lt-ltb}
 use Rattle.est_kernel.specs.declared.statement.Statement.{Statement}
@@ -112,14 +112,6 @@ par_on_passed bits a p b q c t g l e old mid new w h k =
     (first_side (is_live p bits) bits a p b q c t g l old mid refl h)
     (second_side (is_live q bits) bits a p b q c t g l mid new refl
     (subst (λ (d : ℕ). SidePasses q bits d t g l mid new) w k))
-
-pub side_size : (s : Statement) (bits : ℕ → Bool) (c t : ℕ) (g : Status) (l : Env) (old new : List Status)
-    → SidePasses s bits c t g l old new → length new ≡ length old
-side_size s bits c t g l old new h = go (is_live s bits) refl
-  where
-    go : (v : Bool) → is_live s bits ≡ v → length new ≡ length old
-    go true z = (h.on z).changes.size
-    go false z = ap length (h.off z)
 
 pub ends_by : (s : Statement) (bits : ℕ → Bool) (d t : ℕ) (cells : List Status) (v : Status)
     → v ≡ cell_at cells (d + 1) → EndsBy s bits d t cells v

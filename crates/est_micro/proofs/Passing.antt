@@ -3,17 +3,16 @@
 use Rattle.std.specs.Prelude.{◌≡◌, ◌≤◌, ◌+◌, ℕ, Bool, true, false, List}
 use Rattle.std.proofs.Common.{refl, sym, arith, subst}
 use Rattle.est_kernel.specs.View.{query_of, term_of}
-use Rattle.est_kernel.specs.declared.statement.LocalSignal.{LocalSignal}
 use Rattle.est_kernel.specs.declared.statement.Statement.{Statement}
 use Rattle.est_kernel.specs.declared.statement.Statement.TheVariants.{Present', Suspend', Seq'}
-use Rattle.est_kernel.specs.declared.statement.Statement.TheVariants.{Loop', Par', Trap', Local' as Binder'}
-use Rattle.est_meaning.proofs.KnowledgeIsMonotone.{and_below, local_below, opposite_below, query_below}
-use Rattle.est_meaning.specs.Environments.{Env, and_status, opposite, status_of, with_local}
+use Rattle.est_kernel.specs.declared.statement.Statement.TheVariants.{Loop', Par', Trap'}
+use Rattle.est_meaning.proofs.KnowledgeIsMonotone.{and_below, opposite_below, query_below}
+use Rattle.est_meaning.specs.Environments.{Env, and_status, opposite, status_of}
 use Rattle.est_meaning.specs.Knowledge.{IsBelow, KnowsLess}
 use Rattle.est_meaning.specs.declared.status.Status.{Status}
 use Rattle.est_cells.proofs.Order.{ends_below}
 use Rattle.est_cells.specs.Gates.{ends}
-use Rattle.est_cells.specs.Meaning.{begun, begun_parts, cells_at, status_at}
+use Rattle.est_cells.specs.Meaning.{begun, begun_parts, cells_at}
 use Rattle.est_cells.specs.Tables.{Below, PartsBelow, Sheet, emits, is_sure, sheet_size}
 use Rattle.est_net.specs.Cells.{cell_at}
 use Rattle.est_net.specs.Layout.{node_in, parts_in, sheet_in}
@@ -25,7 +24,7 @@ use Rattle.est_micro.specs.declared.cells.Swept.{Swept}
 use Rattle.est_micro.specs.declared.direction.Direction.{Direction}
 use Rattle.est_micro.proofs.BegunNodes.{nothing_changes, widen}
 use Rattle.est_micro.proofs.Frames.{changes_then, node_same, sheet_same}
-use Rattle.est_micro.proofs.Hearing.{begun_local, heard_left, heard_local, heard_right}
+use Rattle.est_micro.proofs.Hearing.{heard_left, heard_right}
 use Rattle.est_micro.proofs.SweepsAreSound.{swept_sound}
 
 -- what changes nothing; one after another
@@ -92,9 +91,6 @@ IsGate g h v = (r : Status) → IsBelow g r → IsBelow v r → IsBelow h r
 
 pub by_go : (g h v : Status) → h ≡ v → IsGate g h v
 by_go g h v z r i j = subst (λ (x : Status). IsBelow x r) (sym z) j
-
-pub by_gate : (g v : Status) → IsGate g g v
-by_gate g v r i j = i
 
 -- the gates of the branches of a `present`, and of the body of a `suspend`
 pub branch_below : (y : _) (g h r : Status) (l e : Env) → h ≡ and_status g (status_of l (query_of y)) → IsBelow g r
@@ -200,20 +196,6 @@ trap_body main a p c t g h l old new z k =
     parts_pass main (Trap' a p) c t g l old new (c + t + 3) (c + t + 3 + sheet_size main p (t + 1)) (omega arith)
     (omega arith) k.changes (λ r e i j u o. passed main p (c + t + 3) (t + 1) h l old new k r e
     (z r i o.cells.go) j u o.parts)
-
-pub local_body : (main : Bool) (s : LocalSignal) (a : _) (p : Statement) (c t : ℕ) (g w : Status) (l : Env)
-    (old new : List Status) → w ≡ cell_at old (c + t + 3)
-    → Passes main p (c + t + 4) t g (with_local l s.index w) old new → Passes main (Binder' s a p) c t g l old new
-local_body main s a p c t g w l old new z k =
-    parts_pass main (Binder' s a p) c t g l old new (c + t + 4) (c + t + 4 + sheet_size main p t) (omega arith)
-    (omega arith) k.changes (λ r e i j u o.
-    let v = status_at r s.index (term_of p) e in
-    record {
-      status = subst (λ (x : Status). IsBelow x v) (sym (k.changes.before (c + t + 3) (omega arith))) o.parts.status;
-      body = passed main p (c + t + 4) t g (with_local l s.index w) old new k r (with_local e s.index v) i
-          (local_below l e s.index w v j (subst (λ (x : Status). IsBelow x v) (sym z) o.parts.status))
-          (heard_local s.index v w e l _ (begun_local main p s.index r e) u) o.parts.body;
-    })
 
 -- a sweep is a pass
 pub sweep_passes : (way : Direction) (main : Bool) (s : Statement) (c t : ℕ) (g : Status) (l : Env)

@@ -2,21 +2,18 @@
 use Rattle.std.specs.Prelude.{◌≡◌, ◌≤◌, ◌+◌, ℕ, Bool, true, false, cond, List}
 use Rattle.std.proofs.Common.{refl, sym, arith, subst}
 use Rattle.est_kernel.specs.Term.{Term, seq}
-use Rattle.est_kernel.specs.View.{query_of, term_of}
-use Rattle.est_kernel.specs.declared.statement.LocalSignal.{LocalSignal}
+use Rattle.est_kernel.specs.View.{term_of}
 use Rattle.est_kernel.specs.declared.statement.Statement.{Statement}
 use Rattle.est_kernel.specs.declared.statement.Statement.TheVariants.{Seq'}
-use Rattle.est_kernel.specs.declared.statement.Statement.TheVariants.{Local' as Binder', Loop', Par', Present', Trap'}
-use Rattle.est_kernel.specs.declared.statement.Statement.TheVariants.{Suspend'}
-use Rattle.est_meaning.proofs.KnowledgeIsMonotone.{and_below, local_below, opposite_below, query_below}
-use Rattle.est_meaning.specs.Environments.{Env, and_status, opposite, status_of, with_local}
+use Rattle.est_kernel.specs.declared.statement.Statement.TheVariants.{Loop', Par'}
+use Rattle.est_meaning.specs.Environments.{Env}
 use Rattle.est_meaning.specs.Knowledge.{IsBelow, KnowsLess}
 use Rattle.est_meaning.specs.States.{is_live, term_at}
 use Rattle.est_meaning.specs.declared.status.Status.{Status}
 use Rattle.est_meaning.specs.declared.status.Status.TheVariants.{Absent}
 use Rattle.est_cells.proofs.Order.{ends_below}
 use Rattle.est_cells.specs.Gates.{ends}
-use Rattle.est_cells.specs.Meaning.{begun, cells_at, resumed, resumed_parts, status_at}
+use Rattle.est_cells.specs.Meaning.{begun, cells_at, resumed, resumed_parts}
 use Rattle.est_cells.specs.Tables.{Below, PartsBelow, Sheet, emits, is_sure, sheet_size}
 use Rattle.est_net.specs.Cells.{cell_at}
 use Rattle.est_net.specs.Layout.{node_in, parts_in, sheet_in}
@@ -28,7 +25,7 @@ use Rattle.est_micro.specs.declared.cells.Swept.{Swept}
 use Rattle.est_micro.specs.declared.direction.Direction.{Direction}
 use Rattle.est_micro.proofs.BegunNodes.{widen}
 use Rattle.est_micro.proofs.Frames.{node_same}
-use Rattle.est_micro.proofs.Hearing.{heard_left, heard_local, heard_right, resumed_local}
+use Rattle.est_micro.proofs.Hearing.{heard_left, heard_right}
 use Rattle.est_micro.proofs.Passing.{after_it, before_it, passed}
 use Rattle.est_micro.proofs.SweepsAreSound.{live_swept_sound}
 
@@ -214,72 +211,6 @@ loop_on_again bits a p c t g h l old new y k =
           (y.says r e o.parts.first) j
           (heard_right _ _ e l u) o.parts.second;
     })
-
-pub trap_on_body : (bits : ℕ → Bool) (a : _) (p : Statement) (c t : ℕ) (g : Status) (l : Env)
-    (old new : List Status) → PassesOn p bits (c + t + 3) (t + 1) g l old new
-    → PassesOn (Trap' a p) bits c t g l old new
-trap_on_body bits a p c t g l old new k =
-    let d = c + t + 3 in
-    parts_pass_on (Trap' a p) bits c t g l old new d (d + sheet_size true p (t + 1)) (omega arith)
-    (omega arith) k.changes (λ r e i j u o. passed_on p bits d (t + 1) g l old new k r e i j u o.parts)
-
--- a branch that goes on
-pub present_on_first : (bits : ℕ → Bool) (y a : _) (p : Statement) (b : _) (q : Statement) (c t : ℕ) (g : Status)
-    (l : Env)
-    (old new : List Status) → is_live p bits ≡ true → PassesOn p bits (c + t + 3) t g l old new
-    → PassesOn (Present' y a p b q) bits c t g l old new
-present_on_first bits y a p b q c t g l old new z k =
-    let d = c + t + 3 in
-    parts_pass_on (Present' y a p b q) bits c t g l old new d (d + sheet_size true p t) (omega arith)
-    (omega arith) k.changes (λ r e i j u o. record {
-      first = on_it (is_live p bits) p (resumed p bits r e) (begun true p Absent e)
-          (sheet_in (cell_at old) true p d t) (sheet_in (cell_at new) true p d t) e l z
-          (λ v w. passed_on p bits d t g l old new k r e i j v w) (heard_left _ _ e l u) o.parts.first;
-      second = after_it true q (d + sheet_size true p t) t _ _ old new _ k.changes (omega arith) o.parts.second;
-    })
-
-pub present_on_second : (bits : ℕ → Bool) (y a : _) (p : Statement) (b : _) (q : Statement) (c t : ℕ) (g : Status)
-    (l : Env) (old new : List Status) → is_live p bits ≡ false
-    → PassesOn q bits (c + t + 3 + sheet_size true p t) t g l old new
-    → PassesOn (Present' y a p b q) bits c t g l old new
-present_on_second bits y a p b q c t g l old new z k =
-    let d = c + t + 3 + sheet_size true p t in
-    parts_pass_on (Present' y a p b q) bits c t g l old new d (d + sheet_size true q t) (omega arith)
-    (omega arith) k.changes (λ r e i j u o. record {
-      first = before_it true p (c + t + 3) t _ _ old new _ k.changes (omega arith) o.parts.first;
-      second = off_it (is_live p bits) q (begun true q Absent e) (resumed q bits r e)
-          (sheet_in (cell_at old) true q d t) (sheet_in (cell_at new) true q d t) e l z
-          (λ v w. passed_on q bits d t g l old new k r e i j v w) (heard_right _ _ e l u) o.parts.second;
-    })
-
--- a first part that is over
-pub local_on_body : (bits : ℕ → Bool) (s : LocalSignal) (a : _) (p : Statement) (c t : ℕ) (g w : Status) (l : Env)
-    (old new : List Status) → w ≡ cell_at old (c + t + 3)
-    → PassesOn p bits (c + t + 4) t g (with_local l s.index w) old new → PassesOn (Binder' s a p) bits c t g l old new
-local_on_body bits s a p c t g w l old new z k =
-    parts_pass_on (Binder' s a p) bits c t g l old new (c + t + 4) (c + t + 4 + sheet_size true p t) (omega arith)
-    (omega arith) k.changes (λ r e i j u o.
-    let v = status_at r s.index (term_at p bits) e in
-    record {
-      status = subst (λ (x : Status). IsBelow x v) (sym (k.changes.before (c + t + 3) (omega arith))) o.parts.status;
-      body = passed_on p bits (c + t + 4) t g (with_local l s.index w) old new k r (with_local e s.index v) i
-          (local_below l e s.index w v j (subst (λ (x : Status). IsBelow x v) (sym z) o.parts.status))
-          (heard_local s.index v w e l _ (resumed_local p bits s.index r e) u) o.parts.body;
-    })
-
-pub suspend_on_body : (bits : ℕ → Bool) (y a : _) (p : Statement) (c t : ℕ) (g h : Status) (l : Env)
-    (old new : List Status) → h ≡ and_status g (opposite (status_of l (query_of y)))
-    → PassesOn p bits (c + t + 3) t h l old new → PassesOn (Suspend' y a p) bits c t g l old new
-suspend_on_body bits y a p c t g h l old new z k =
-    let d = c + t + 3 in
-    parts_pass_on (Suspend' y a p) bits c t g l old new d (d + sheet_size true p t) (omega arith)
-    (omega arith) k.changes (λ r e i j u o.
-    let v = status_of e (query_of y) in
-    let w = status_of l (query_of y) in
-    let inside = and_status r (opposite v) in
-    passed_on p bits d t h l old new k inside e
-    (subst (λ (x : Status). IsBelow x inside) (sym z)
-    (and_below g r (opposite w) (opposite v) i (opposite_below w v (query_below l e (query_of y) j)))) j u o.parts)
 
 -- a sweep is a pass
 pub sweep_passes_on : (way : Direction) (s : Statement) (bits : ℕ → Bool) (c t : ℕ) (g : Status) (l : Env)

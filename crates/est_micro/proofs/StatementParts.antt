@@ -51,10 +51,7 @@ within_then main s c t M own p d u N low q e v O h k =
           (k.whole old new g (h.part (cell_at old) m) o);
     }
 
--- so is a part of itself, and a part of a part
-pub part_itself : (main : Bool) (s : Statement) (c t : ℕ) (M : Sheet main s) → IsPart main s c t M main s c t M
-part_itself main s c t M = record { lies = within_itself main s c t M; emits = λ n i. i }
-
+-- a part of a part is one
 pub part_then : (main : Bool) (s : Statement) (c t : ℕ) (M : Sheet main s) (own : Bool) (p : Statement) (d u : ℕ)
     (N : Sheet own p) (low : Bool) (q : Statement) (e v : ℕ) (O : Sheet low q) → IsPart main s c t M own p d u N
     → IsPart own p d u N low q e v O → IsPart main s c t M low q e v O
@@ -337,6 +334,66 @@ seq_first_on bits a p b q c t r e z = record {
         });
   };
   emits = λ n i. or_left _ _ (chosen_in (is_live p bits) p (resumed p bits r e) (begun true p Absent e) z n i);
+}
+
+pub par_first_over : (bits : ℕ → Bool) (a : _) (p : Statement) (b : _) (q : Statement) (c t : ℕ) (r : Status) (e : Env)
+    → is_live p bits ≡ false
+    → IsPart true (Par' a p b q) c t (resumed (Par' a p b q) bits r e) true p (c + t + 3) t
+    (begun true p Absent e)
+unfolding union
+par_first_over bits a p b q c t r e z = record {
+  lies = record {
+    from = omega arith;
+    within = omega arith;
+    part = λ f k. left_over (is_live p bits) p _ (resumed p bits r e) (begun true p Absent e) z
+        k.parts.first;
+    whole = λ old new g k m.
+        with_parts true (Par' a p b q) c t _ _ old new (resumed (Par' a p b q) bits r e) (omega arith) g k (record {
+          first = leave (is_live p bits) p _ (resumed p bits r e) (begun true p Absent e) z m;
+          second = after_it true q (c + t + 3 + sheet_size true p t) t _ _ old new _ g (omega arith) k.parts.second;
+        });
+  };
+  emits = λ n i. or_left _ _ (left_in (is_live p bits) p (resumed p bits r e) (begun true p Absent e) z n i);
+}
+
+pub par_second_over : (bits : ℕ → Bool) (a : _) (p : Statement) (b : _) (q : Statement) (c t : ℕ) (r : Status) (e : Env)
+    → is_live q bits ≡ false
+    → IsPart true (Par' a p b q) c t (resumed (Par' a p b q) bits r e) true q (c + t + 3 + sheet_size true p t) t
+    (begun true q Absent e)
+unfolding union
+par_second_over bits a p b q c t r e z = record {
+  lies = record {
+    from = omega arith;
+    within = omega arith;
+    part = λ f k. left_over (is_live q bits) q _ (resumed q bits r e) (begun true q Absent e) z
+        k.parts.second;
+    whole = λ old new g k m.
+        with_parts true (Par' a p b q) c t _ _ old new (resumed (Par' a p b q) bits r e) (omega arith) g k (record {
+          first = before_it true p (c + t + 3) t _ _ old new _ g (omega arith) k.parts.first;
+          second = leave (is_live q bits) q _ (resumed q bits r e) (begun true q Absent e) z m;
+        });
+  };
+  emits = λ n i. or_right _ _ (left_in (is_live q bits) q (resumed q bits r e) (begun true q Absent e) z n i);
+}
+
+pub seq_first_over : (bits : ℕ → Bool) (a : _) (p : Statement) (b : _) (q : Statement) (c t : ℕ) (r : Status) (e : Env)
+    → is_live p bits ≡ false
+    → IsPart true (Seq' a p b q) c t (resumed (Seq' a p b q) bits r e) true p (c + t + 3) t
+    (begun true p Absent e)
+unfolding union
+seq_first_over bits a p b q c t r e z = record {
+  lies = record {
+    from = omega arith;
+    within = omega arith;
+    part = λ f k. left_over (is_live p bits) p _ (resumed p bits r e) (begun true p Absent e) z
+        k.parts.first;
+    whole = λ old new g k m.
+        with_parts true (Seq' a p b q) c t _ _ old new (resumed (Seq' a p b q) bits r e) (omega arith) g k (record {
+          first = leave (is_live p bits) p _ (resumed p bits r e) (begun true p Absent e) z m;
+          second = after_it true q (c + t + 3 + sheet_size true p t) t _ _ old new _ g (omega arith) k.parts.second;
+        });
+  };
+  emits = λ n i. or_left _ _ (left_in (is_live p bits) p (resumed p bits r e) (begun true p Absent e) z n i);
 }
 
 pub seq_next_on : (bits : ℕ → Bool) (a : _) (p : Statement) (b : _) (q : Statement) (c t : ℕ) (r : Status) (e : Env)

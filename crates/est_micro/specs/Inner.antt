@@ -1,10 +1,11 @@
 pub mod Closing
 pub mod FirstSweep
 pub mod Hearing
-pub mod Leads
 pub mod Outcomes
 pub mod Outputs
+pub mod Parts
 pub mod Passes
 pub mod Pausing
 pub mod Sides
 pub mod Views
+pub mod Walks

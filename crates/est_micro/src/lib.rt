@@ -15,14 +15,14 @@
 //! (`outputs`). After a sweep that decided little, passes look again at what reads the signals
 //! that were just decided (`passes`, by `pass_begin` and `pass_resume`).
 //!
-//! Where the `sides` of a `||` tell each other, the run has an order in which they do
-//! (`side_order`). In it a pass sweeps them one by one (`lead`, which finds the `||` by
-//! `find_begin` and `find_resume`), and knows after each what is emitted surely, and what is
-//! emitted nowhere any more. Then the `||` is told what the codes of its sides say, unless it goes
-//! on from its pauses (`closing`). The first run begins so, and each that comes after it where the
-//! order goes across the text, or the run before found an absent signal so. Else it does so after
-//! a slow sweep, and passes only if that decides nothing. The order is a guess: a bad one costs
-//! time, and changes no answer.
+//! Where the `sides` of a `||` tell each other, the table has an order in which they do
+//! (`side_order` of `est_net`). A `walk` goes over each `part` of the statement with such a `||`,
+//! as they are run, and sweeps the sides one by one in their order (`lead`). It knows after each
+//! what is emitted surely, and what is emitted nowhere any more. Then the `||` is told what the
+//! codes of its sides say, unless it goes on from its pauses (`closing`). The first run begins so,
+//! and each that comes after it where an order goes across the text, or the run before found an
+//! absent signal so. Else it does so after a slow sweep, and passes only if that decides nothing.
+//! An order is a guess: a bad one costs time, and changes no answer.
 //!
 //! `learning` tells one cell, `cells` those of one statement; `must_can` puts together what is
 //! judged of a statement from what is judged of its parts. `micro` reads the outcome off the cells,
@@ -39,8 +39,6 @@ mod closing;
 mod decided;
 mod direction;
 mod extents;
-mod find_begin;
-mod find_resume;
 mod idle;
 pub mod laws;
 mod lead;
@@ -49,15 +47,16 @@ pub mod micro;
 mod must_can;
 mod next_pauses;
 mod outputs;
+mod part;
 mod part_reactions;
 mod pass_begin;
 mod pass_resume;
 mod passes;
 mod question;
 mod settling;
-mod side_order;
 mod sides;
 mod sweep_begin;
 mod sweep_kind;
 mod sweep_resume;
 mod waiting;
+mod walk;

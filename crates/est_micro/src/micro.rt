@@ -16,7 +16,6 @@ use crate::direction::Direction;
 use crate::next_pauses::collect_pauses;
 use crate::question::Question;
 use crate::settling::{Beginning, decide_cells};
-use crate::side_order::{SideOrder, side_order_of};
 use est_kernel::completion::Completion;
 use est_kernel::kernel::Kernel;
 use est_kernel::mask;
@@ -31,10 +30,6 @@ pub struct Micro {
     pub(crate) net: Net,
     /// How the next run begins, as the last one told.
     pub(crate) beginning: Beginning,
-    /// In which order a run first looks at the sides of a `||`.
-    pub(crate) order: SideOrder,
-    /// Whether the order was made. The first run makes it.
-    has_order: bool,
 }
 
 /// The outcome of a kernel that had not ended, where its cells give a code: its pauses are read off
@@ -107,19 +102,6 @@ impl Micro {
                 direction: Direction::Forwards,
                 leads: true,
             },
-            order: SideOrder::none(0),
-            has_order: false,
-        }
-    }
-
-    /// Makes the order in which a run first looks at the sides of a `||`, if it wasn't made.
-    pub(crate) fn make_order(&mut self, kernel: &Kernel)
-        requires net { IsNetOf self.old.net kernel.now }
-        ensures net { self.new.net ≡ self.old.net }
-    {
-        if !self.has_order {
-            self.order = side_order_of(&self.net, kernel.root());
-            self.has_order = true;
         }
     }
 
@@ -161,8 +143,7 @@ impl Micro {
             inputs: inputs.signals,
             unasked: 0,
         };
-        self.make_order(kernel);
-        let run_end = decide_cells(&mut self.net, &question, self.beginning, &self.order);
+        let run_end = decide_cells(&mut self.net, &question, self.beginning);
         self.beginning = run_end.next;
         match read_outcome(&self.net, kernel, state, &run_end.swept) {
             Some(outcome) => Ok(outcome),

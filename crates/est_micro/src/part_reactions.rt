@@ -91,8 +91,7 @@ impl PartEngine for Micro {
             inputs: inputs.signals,
             unasked,
         };
-        self.make_order(kernel);
-        let run_end = decide_cells(&mut self.net, &question, self.beginning, &self.order);
+        let run_end = decide_cells(&mut self.net, &question, self.beginning);
         self.beginning = run_end.next;
         match told_if_decided(&self.net, kernel, state, &run_end.swept) {
             Some(outcome) => Ok(outcome),

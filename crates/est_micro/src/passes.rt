@@ -1,5 +1,6 @@
-//! Passes between the rounds of a run: over the sides of a `||` in their order, or over what reads
-//! the signals that the one before decided. Then the cells of the signals are told what is emitted.
+//! Between the rounds of a run: a walk in the order of the sides of `||`s, or passes over what
+//! reads the signals that the one before decided. Then the cells of the signals are told what is
+//! emitted.
 
 ghost use Rattle.std.specs.Prelude.{◌≡◌, ◌≤◌, ℕ, Bool};
 ghost use Rattle.std.specs.List.{list_any};
@@ -18,12 +19,11 @@ ghost use Rattle.est_micro.specs.Runs.{Ready};
 
 use crate::cells::StatementPlace;
 use crate::direction::Direction;
-use crate::lead::lead_round;
 use crate::outputs::update_signals;
 use crate::pass_begin::pass_begun;
 use crate::pass_resume::pass_resumed;
 use crate::question::Question;
-use crate::side_order::SideOrder;
+use crate::walk::lead_round;
 use est_kernel::code_set::CodeSet;
 use est_kernel::mask;
 use est_kernel::state::State;
@@ -135,9 +135,9 @@ fn pass_all(net: &mut Net, question: &Question<'_>, env: &mut Env, just_decided:
     }
 }
 
-/// Sweeps the sides of a `||` in an order, and then tells the cells of the signals what is emitted.
-/// Answers whether some signal was found to be absent.
-fn lead_again(net: &mut Net, question: &Question<'_>, env: &mut Env, order: &SideOrder) -> bool
+/// Walks in the order of the sides of `||`s, and then tells the cells of the signals what is
+/// emitted. Answers whether some signal was found to be absent.
+fn lead_again(net: &mut Net, question: &Question<'_>, env: &mut Env) -> bool
     requires net { IsNetOf net.old question.now.kernel.now }
     requires state { IsState question.now.kernel.now.root question.now.state.now }
     requires apart { AreInputsAlone question.now.kernel.now.interface (bits question.now.unasked) }
@@ -151,22 +151,16 @@ fn lead_again(net: &mut Net, question: &Question<'_>, env: &mut Env, order: &Sid
     ensures net { IsNetOf net.new question.now.kernel.now }
     ensures kept { kept net.new ≡ kept net.old }
 {
-    let is_absent = lead_round(net, question, env, order);
+    let is_absent = lead_round(net, question, env);
     let said = judged(net);
     *env = update_signals(net, question, &said);
     is_absent
 }
 
-/// After a sweep that was slow: sweeps the sides of a `||` in their order, if there is one. Where
-/// that decides nothing, passes by the signals that were just decided. Answers whether some signal
-/// was found to be absent in that order.
-pub fn catch_up(
-    net: &mut Net,
-    question: &Question<'_>,
-    env: &mut Env,
-    just_decided: u64,
-    order: &SideOrder,
-) -> bool
+/// After a sweep that was slow: walks in the order of the sides of `||`s. Where that decides
+/// nothing, passes by the signals that were just decided. Answers whether some signal was found to
+/// be absent in the walk.
+pub fn catch_up(net: &mut Net, question: &Question<'_>, env: &mut Env, just_decided: u64) -> bool
     requires net { IsNetOf net.old question.now.kernel.now }
     requires state { IsState question.now.kernel.now.root question.now.state.now }
     requires apart { AreInputsAlone question.now.kernel.now.interface (bits question.now.unasked) }
@@ -184,7 +178,7 @@ pub fn catch_up(
         return false;
     }
     let decided_before = net.steps();
-    let is_absent = lead_again(net, question, env, order);
+    let is_absent = lead_again(net, question, env);
     if net.steps() == decided_before {
         pass_all(net, question, env, just_decided);
     }

@@ -16,14 +16,13 @@ ghost use Rattle.est_micro.specs.Inner.Views.{IsFresh, IsSwept};
 
 use crate::cells::{StatementPlace, Swept};
 use crate::direction::Direction;
-use crate::lead::lead_round;
 use crate::outputs::{in_doubt, update_signals};
 use crate::passes::{catch_up, newly_decided};
 use crate::question::Question;
-use crate::side_order::SideOrder;
 use crate::sweep_begin::sweep_begun;
 use crate::sweep_kind::{FirstSweep, LaterSweep, SweepKind};
 use crate::sweep_resume::sweep_resumed;
+use crate::walk::lead_round;
 use est_kernel::state::State;
 use est_meaning::signal_set::Env;
 use est_meaning::status::Status;
@@ -69,7 +68,7 @@ fn sweep<K: SweepKind>(
 pub struct Beginning {
     /// Which way the first sweep goes.
     pub direction: Direction,
-    /// Whether the sides of a `||` are swept in their order before it.
+    /// Whether a walk in the order of the sides of `||`s comes before it.
     pub leads: bool,
 }
 
@@ -92,15 +91,9 @@ struct Started {
     is_absent: bool,
 }
 
-/// The first sweep of an instant. If a pass over the sides of a `||` is wanted, and there is an
-/// order, that comes before it, and then some of the cells are decided.
-fn sweep_first(
-    net: &mut Net,
-    question: &Question<'_>,
-    env: &Env,
-    beginning: Beginning,
-    order: &SideOrder,
-) -> Started
+/// The first sweep of an instant. If a walk in the order of the sides of `||`s is wanted, and there
+/// is an order, that comes before it, and then some of the cells are decided.
+fn sweep_first(net: &mut Net, question: &Question<'_>, env: &Env, beginning: Beginning) -> Started
     requires net { IsNetOf net.old question.now.kernel.now }
     requires state { IsState question.now.kernel.now.root question.now.state.now }
     requires apart { AreInputsAlone question.now.kernel.now.interface (bits question.now.unasked) }
@@ -113,8 +106,8 @@ fn sweep_first(
     ensures kept { kept net.new ≡ kept net.old }
 {
     let direction = beginning.direction;
-    if beginning.leads && order.count != 0 {
-        let is_absent = lead_round(net, question, env, order);
+    if beginning.leads && net.orders().are_some() {
+        let is_absent = lead_round(net, question, env);
         let swept = sweep::<LaterSweep>(net, question, env, direction);
         Started { swept, is_absent }
     } else {
@@ -169,23 +162,17 @@ fn to_pass(
     }
 }
 
-/// How the next run is to begin, where some signal was found to be absent in the order of the
-/// sides, or none was.
-fn next_beginning(direction: Direction, is_absent: bool, order: &SideOrder) -> Beginning {
+/// How the next run is to begin, where some signal was found to be absent in a walk, or none was.
+fn next_beginning(net: &Net, direction: Direction, is_absent: bool) -> Beginning {
     Beginning {
         direction,
-        leads: is_absent || order.is_mixed,
+        leads: is_absent || net.orders().are_mixed(),
     }
 }
 
 /// Opens the table, and makes rounds until nothing more can be decided. Of the inputs that are not
 /// asked nothing is known: what is decided is so whatever they are.
-pub fn decide_cells(
-    net: &mut Net,
-    question: &Question<'_>,
-    beginning: Beginning,
-    order: &SideOrder,
-) -> RunEnd
+pub fn decide_cells(net: &mut Net, question: &Question<'_>, beginning: Beginning) -> RunEnd
     requires net { IsNetOf net.old question.now.kernel.now }
     requires state { IsState question.now.kernel.now.root question.now.state.now }
     requires apart { AreInputsAlone question.now.kernel.now.interface (bits question.now.unasked) }
@@ -200,7 +187,7 @@ pub fn decide_cells(
     let possible = net.reach().from_state(question.state);
     net.clear();
     let mut env = update_signals(net, question, &in_doubt(possible));
-    let started = sweep_first(net, question, &env, beginning, order);
+    let started = sweep_first(net, question, &env, beginning);
     let mut swept = started.swept;
     let mut is_absent = started.is_absent;
     let mut decided_before = 0;
@@ -211,7 +198,7 @@ pub fn decide_cells(
     while goes_on(decided, decided_before, cell_count) {
         direction = next_direction(direction, decided, decided_before, cell_count);
         let just_decided = to_pass(&env_before, &env, decided, decided_before, cell_count);
-        if catch_up(net, question, &mut env, just_decided, order) {
+        if catch_up(net, question, &mut env, just_decided) {
             is_absent = true;
         }
         decided_before = net.steps();
@@ -223,6 +210,6 @@ pub fn decide_cells(
     RunEnd {
         swept,
         env,
-        next: next_beginning(direction, is_absent, order),
+        next: next_beginning(net, direction, is_absent),
     }
 }

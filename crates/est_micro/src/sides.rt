@@ -1,17 +1,21 @@
-//! The sides of a `||`, those of a `||` that is its second side among them.
+//! The sides of a `||`, those of a `||` that is its second side among them. Where there are more
+//! than an order may have, the last one is what is left of the `||`.
 
 ghost use Rattle.std.specs.Prelude.{◌≡◌, ◌<◌, ◌≤◌, ◌+◌, length, IfSome};
 ghost use Rattle.est_kernel.specs.Limits.{trap_depth};
 ghost use Rattle.est_kernel.specs.Masks.{FitsMasks};
 ghost use Rattle.est_kernel.specs.View.{term_of};
 ghost use Rattle.est_cells.specs.Tables.{sheet_size};
+ghost use Rattle.est_kernel.specs.declared.statement.Statement.TheVariants.{Par'};
 ghost use Rattle.est_net.specs.Extents.{HasExtents};
+ghost use Rattle.est_micro.specs.Inner.Parts.{AreTwo};
 ghost use Rattle.est_micro.specs.Inner.Sides.{AreSidesOf, IsOneOf, IsSideOf};
 
 use crate::cells::StatementPlace;
 use crate::extents::{number_after, past};
 use est_kernel::statement::Statement;
 use est_net::net::Net;
+use est_net::side_order::LAST_SIDE;
 
 /// A side, its number, and where its cells begin.
 #[derive(Clone, Copy)]
@@ -66,7 +70,7 @@ impl<'a> Sides<'a> {
             → AreSidesOf net.now.extents.items top.now r self.new.list self.new.count }
     {
         match s {
-            Statement::Par(p, q) => {
+            Statement::Par(p, q) if self.count < LAST_SIDE => {
                 let place = StatementPlace {
                     number: number + 1,
                     cell: cell + top.traps + 3,
@@ -89,21 +93,27 @@ impl<'a> Sides<'a> {
         }
     }
 
-    /// The sides of a statement.
-    pub fn of(net: &Net, at: &StatementPlace, s: &'a Statement) -> Sides<'a>
-        requires fits { FitsMasks s.now }
-        requires extents { HasExtents net.now.extents.items at.now.number at.now.traps s.now }
-        requires within { at.now.cell + sheet_size at.now.main s.now at.now.traps
-            ≤ length net.now.cells.items }
-        requires traps { at.now.traps + trap_depth (term_of s.now) ≤ 62 }
-        ensures { AreSidesOf net.now.extents.items at.now s.now result.list result.count }
+    /// The sides of the `||` of these two statements at this place.
+    pub fn of(net: &Net, at: &StatementPlace, p: &'a Statement, q: &'a Statement) -> Sides<'a>
+        requires { AreTwo net.now.extents.items (length net.now.cells.items) at.now p.now q.now }
+        ensures { (a b : _) → AreSidesOf net.now.extents.items at.now (Par' a p.now b q.now)
+            result.list result.count }
     {
-        let mut sides = Sides::none(Side {
-            statement: s,
-            number: at.number,
-            cell: at.cell,
-        });
-        sides.add(net, at, at.number, at.cell, s);
+        let place = StatementPlace {
+            number: at.number + 1,
+            cell: at.cell + at.traps + 3,
+            ..*at
+        };
+        let first = Side {
+            statement: p,
+            number: place.number,
+            cell: place.cell,
+        };
+        let mut sides = Sides::none(first);
+        sides.push(first);
+        let next_number = number_after(net, &place, p);
+        let next_cell = past(net, &place, p);
+        sides.add(net, at, next_number, next_cell, q);
         sides
     }
 

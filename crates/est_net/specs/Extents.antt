@@ -31,6 +31,8 @@ extent_at xs n = get_or xs n (record {
   statements = 0;
   pauses = None;
   reads = record { interface = 0; local = 0 };
+  emits = record { interface = 0; local = 0 };
+  tells = false;
 })
 
 -- the entry at this number is of this statement

@@ -11,7 +11,7 @@ ghost use Rattle.est_net.specs.Inner.Extending.{ArePartsAdded, IsExtended};
 
 use crate::pause_run::PauseRun;
 use crate::reading::read_by;
-use est_kernel::statement::{PauseIndex, Statement, Test};
+use est_kernel::statement::{PauseIndex, Signal, Statement, Test};
 use est_meaning::signal_set::{self, SignalSet};
 use std::alloc::{AllocError, Global};
 
@@ -28,6 +28,10 @@ pub struct Extent {
     pub pauses: Option<PauseRun>,
     /// The signals that tests in it read.
     pub reads: SignalSet,
+    /// Those that are emitted in it.
+    pub emits: SignalSet,
+    /// Whether a `||` in it reads what it emits itself.
+    pub tells: bool,
 }
 
 impl Extent {
@@ -93,6 +97,21 @@ fn leaf(cells: usize, pauses: PauseRun) -> Extent
         statements: 1,
         pauses: Some(pauses),
         reads: signal_set::no_signal(),
+        emits: signal_set::no_signal(),
+        tells: false,
+    }
+}
+
+/// What is known of a statement that emits this signal, and of which the rest is known.
+fn with_emission(rest: Extent, signal: Signal) -> Extent
+    ensures main { result.main ≡ rest.main }
+    ensures again { result.again ≡ rest.again }
+    ensures statements { result.statements ≡ rest.statements }
+    ensures pauses { result.pauses ≡ rest.pauses }
+{
+    Extent {
+        emits: signal_set::only_with_bit(signal),
+        ..rest
     }
 }
 
@@ -134,6 +153,8 @@ fn with_part(own: usize, p: &Extent) -> Result<Extent, AllocError>
         statements: add(1, p.statements)?,
         pauses: p.pauses,
         reads: p.reads,
+        emits: p.emits,
+        tells: p.tells,
     })
 }
 
@@ -152,8 +173,14 @@ fn with_body(own: usize, p: &Extent) -> Result<Extent, AllocError>
 }
 
 /// What is known of a statement that has these cells of its own and these two parts, and whose own
-/// test, if it has one, reads these signals.
-fn with_parts(own: usize, p: &Extent, q: &Extent, reads: SignalSet) -> Result<Extent, AllocError>
+/// test, if it has one, reads these signals. `are_sides`: it is a `||`.
+fn with_parts(
+    own: usize,
+    p: &Extent,
+    q: &Extent,
+    reads: SignalSet,
+    are_sides: bool,
+) -> Result<Extent, AllocError>
     ensures main { IfOk result (λ x. x.main ≡ own + p.now.main + q.now.main) }
     ensures again { IfOk result (λ x. x.again ≡ own + p.now.again + q.now.again) }
     ensures statements { IfOk result
@@ -163,12 +190,16 @@ fn with_parts(own: usize, p: &Extent, q: &Extent, reads: SignalSet) -> Result<Ex
         → IfSome x.pauses (IsRunOf (λ set. f set || g set))) }
 {
     let first = with_part(own, p)?;
+    let reads_inside = signal_set::union_of(p.reads, q.reads);
+    let emits = signal_set::union_of(p.emits, q.emits);
     Ok(Extent {
         main: add(first.main, q.main)?,
         again: add(first.again, q.again)?,
         statements: add(first.statements, q.statements)?,
         pauses: joined(p.pauses, q.pauses),
-        reads: signal_set::union_of(reads, signal_set::union_of(p.reads, q.reads)),
+        reads: signal_set::union_of(reads, reads_inside),
+        emits,
+        tells: p.tells || q.tells || are_sides && signal_set::meets(reads_inside, emits),
     })
 }
 
@@ -182,12 +213,19 @@ fn add_parts(extents: &mut Vec<Extent>, s: &Statement, traps: usize) -> Result<E
     let none = signal_set::no_signal();
     match s {
         Statement::Nothing => Ok(leaf(traps + 3, no_pause())),
-        Statement::Emit(_) => Ok(leaf(traps + 3, no_pause())),
+        Statement::Emit(signal) => Ok(with_emission(leaf(traps + 3, no_pause()), *signal)),
         Statement::Exit(_) => Ok(leaf(traps + 3, no_pause())),
         Statement::Pause(pause) => Ok(leaf(traps + 3, one_pause(*pause))),
-        Statement::Present(test, p, q) => add_extents_of_two(extents, p, q, traps, read_by(test)),
-        Statement::Seq(p, q) => add_extents_of_two(extents, p, q, traps, none),
-        Statement::Par(p, q) => add_extents_of_two(extents, p, q, traps, none),
+        Statement::Present(test, p, q) => add_extents_of_two(
+            extents,
+            p,
+            q,
+            traps,
+            read_by(test),
+            false,
+        ),
+        Statement::Seq(p, q) => add_extents_of_two(extents, p, q, traps, none, false),
+        Statement::Par(p, q) => add_extents_of_two(extents, p, q, traps, none, true),
         Statement::Suspend(test, p) => {
             let body = add_extents(extents, p, traps)?;
             Ok(with_test(with_part(traps + 3, &body)?, test))
@@ -208,7 +246,8 @@ fn add_parts(extents: &mut Vec<Extent>, s: &Statement, traps: usize) -> Result<E
 }
 
 /// Adds the entries of two parts, or memory was refused. Answers what is known of the statement
-/// that has these parts, and whose own test, if it has one, reads these signals.
+/// that has these parts, and whose own test, if it has one, reads these signals. `are_sides`: it is
+/// a `||`.
 #[cycle(add_extents)]
 fn add_extents_of_two(
     extents: &mut Vec<Extent>,
@@ -216,6 +255,7 @@ fn add_extents_of_two(
     q: &Statement,
     traps: usize,
     reads: SignalSet,
+    are_sides: bool,
 ) -> Result<Extent, AllocError>
     requires first { traps + trap_depth (term_of p.now) < 65536 }
     requires second { traps + trap_depth (term_of q.now) < 65536 }
@@ -228,7 +268,7 @@ fn add_extents_of_two(
 {
     let first = add_extents(extents, p, traps)?;
     let second = add_extents(extents, q, traps)?;
-    let both = with_parts(traps + 3, &first, &second, reads)?;
+    let both = with_parts(traps + 3, &first, &second, reads, are_sides)?;
     Ok(both)
 }
 

@@ -21,6 +21,7 @@ use crate::cell_set::CellSet;
 use crate::emissions::{Emission, Emitted, emissions_of, without_emitted};
 use crate::extents::{Extent, extents_of};
 use crate::reach::Reach;
+use crate::side_order::SideOrders;
 use crate::table;
 use est_kernel::interface::Interface;
 use est_kernel::kernel::Kernel;
@@ -48,6 +49,8 @@ pub struct Net {
     extents: Vec<Extent>,
     /// The emissions of signals of the interface, in the order of their cells.
     emissions: Vec<Emission>,
+    /// In which order the sides of its `||`s tell each other.
+    orders: SideOrders,
     /// All others are decided.
     ghost counted: { decided cells.items + open_count ≡ length cells.items },
     ghost marks: { AreTrueCells true_cells.words.items cells.items } by { AreTrueCells-prop
@@ -101,6 +104,7 @@ impl Net {
         let cells = open_cells(alloc, outputs, &extents[0])?;
         let reach = Reach::of(alloc, kernel.root())?;
         let emissions = emissions_of(alloc, kernel.root(), outputs)?;
+        let orders = SideOrders::of(alloc, &extents, kernel.root())?;
         Ok(Net {
             true_cells: CellSet::with_room(alloc, cells.len())?,
             open_count: cells.len(),
@@ -111,6 +115,7 @@ impl Net {
             reach,
             extents,
             emissions,
+            orders,
         })
     }
 
@@ -149,6 +154,11 @@ impl Net {
         ensures { result.now ≡ extent_at self.now.extents.items number }
     {
         &self.extents[number]
+    }
+
+    /// In which order the sides of its `||`s tell each other.
+    pub fn orders(&self) -> &SideOrders {
+        &self.orders
     }
 
     /// What a cell knows. One that isn't there is never true.

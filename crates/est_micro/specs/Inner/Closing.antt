@@ -5,12 +5,10 @@ use Rattle.est_meaning.specs.Environments.{Env}
 use Rattle.est_meaning.specs.Knowledge.{IsBelow}
 use Rattle.est_meaning.specs.declared.status.Status.{Status}
 use Rattle.est_cells.specs.Meaning.{begun}
-use Rattle.est_cells.specs.Tables.{Below, Sheet, sheet_size}
+use Rattle.est_cells.specs.Tables.{Below, sheet_size}
 use Rattle.est_net.specs.Cells.{cell_at}
 use Rattle.est_net.specs.Layout.{sheet_in}
-use Rattle.est_micro.specs.Inner.Sides.{IsFoundIn}
 use Rattle.est_micro.specs.Inner.Views.{Changes}
-use Rattle.est_micro.specs.declared.find_begin.Found.{Found}
 
 -- only cells of the statement have changed; where it is begun, if at all, as r tells, and no more of them was decided
 -- than is meant, it is so still. The gate g may fall short of r
@@ -19,10 +17,3 @@ pub record Closes (main : Bool) (s : Statement) (c t : ℕ) (g : Status) (old ne
   pub sound : (r : Status) (e : Env) → IsBelow g r
       → Below main s (sheet_in (cell_at old) main s c t) (begun main s r e)
       → Below main s (sheet_in (cell_at new) main s c t) (begun main s r e)
-
--- only cells of what was found have changed; where no more was decided than is meant of a statement in which it was
--- found, it is so still
-pub record IsFoundClosed (f : Found) (old new : List Status) : Type 0 where
-  pub changes : Changes f.place.cell (f.place.cell + sheet_size f.place.main f.statement.now f.place.traps) old new
-  pub below : (main : Bool) (s : Statement) (c t : ℕ) (M : Sheet main s) (e : Env) → IsFoundIn main s c t M e f
-      → Below main s (sheet_in (cell_at old) main s c t) M → Below main s (sheet_in (cell_at new) main s c t) M

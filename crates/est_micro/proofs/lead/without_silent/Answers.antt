@@ -1,12 +1,12 @@
 use Rattle.std.proofs.Common.{◌≡◌, ◌&&◌, ◌||◌, ℕ, true, not, refl, ap, sym, ◌∙◌}
 use Rattle.est_kernel.specs.Bits.{bits}
 use Rattle.est_meaning.specs.Views.{env_of}
-use Rattle.est_micro.proofs.LeadRounds.{IsAsked, both_of, is_asked, silent_absent, silent_leads, was_asked}
+use Rattle.est_micro.proofs.Walks.{IsAsked, both_of, is_asked, silent_absent, silent_walked, was_asked}
 use Rattle.est_micro.proofs.lead.without_silent.Goals as goal
 
 pub returns : goal.returns
 returns c = record {
-  silent = λ others agree f leads.
+  silent = λ f.
       let e = c.args.known.now in
       let kernel = c.args.question.now.kernel.now in
       let inputs = bits c.args.question.now.inputs in
@@ -24,10 +24,11 @@ returns c = record {
       = λ n z. is_asked _ _ _ _ _ _
       (sym (c.difference-open.ensures n ∙ both_of (λ a b. a && not b) (wanted n) (told n))
       ∙ (was_asked _ _ (sym (c.silent_among-silent.ensures n) ∙ z)).0) in
-      silent_leads kernel c.args.question.now.state.now others f c.args.net.now.cells.items e _ silent
-      (λ n z. silent_absent kernel c.args.question.now.state.now others f c.args.net.now.cells.items (env_of e) n _
+      silent_walked kernel c.args.question.now.state.now unasked inputs f c.args.net.now.cells.items e _ silent
+      (λ others agree at leads n z. silent_absent kernel c.args.question.now.state.now others f at
+      c.args.net.now.cells.items (env_of e) n _
       c.requires.net.emissions leads (sym (ap (λ f. f n) c.requires.net.signals) ∙ (asked n z).emitted_is)
       (agree n (asked n z).unasked_is ∙ (asked n z).offered_is)
       (was_asked _ _ (sym (c.silent_among-silent.ensures n) ∙ z)).1)
-      (λ n z. (asked n z).present_is) refl c.difference.ensures refl leads;
+      (λ n z. (asked n z).present_is) refl c.difference.ensures refl;
 }

@@ -1,6 +1,6 @@
 use Rattle.std.proofs.Common.{arith}
 use Rattle.est_kernel.specs.Bits.{bits}
-use Rattle.est_micro.proofs.LeadRounds.{listed_ready}
+use Rattle.est_micro.proofs.Walks.{listed_ready}
 use Rattle.est_micro.proofs.Unasked.{update_by}
 use Rattle.est_micro.proofs.passes.lead_again.Goals as goal
 
