@@ -5,15 +5,15 @@ usage: orders.py [RELAYS] [RINGS] [SEED]
 
 A relay is a `||` of parts, each of which makes a signal present where the one before it is; a ring is the arbiter of bench/worklist.py.
 Made from SEED on (0 if it is left out) are RELAYS random orders of relays of 8 to 63 signals (300), and RINGS of rings of 4 to 32 cells (100).
-Some of the relays begin without a signal, some go on from a pause in each part, some stand under a `present` or in a `signal`, and some are of
-local signals. Each runs for a few instants on the port and on
+Some of the relays begin without a signal, some go on from a pause in each part, some stand under a `present` or in a `signal`, after another
+one or inside it, and some are of local signals. Each runs for a few instants on the port and on
 `bench/worklist.c`, and on a port that goes by sweeps alone, without the order of sides and without passes. All have to decide as many cells and
 to give one sum of outputs; else the script ends with 1, as where an instant looks at more than three statements a cell.
 
 Then it prints the instructions an instant of relays of 16, 32 and 63 signals and of rings of 8, 16 and 32 cells, by callgrind: in order, and
 the mean of a few random orders, and how many times as many these are; and at how many statements an instant looks at most, over its cells.
-Some of the relays never begin. Last come relays for which the engine has no order, or none that helps: a second one after the first, and local
-signals of which none is present. They may look at more statements.
+Some of the relays never begin. Last come relays whose order doesn't help: of local signals of which none is present. They may look at more
+statements.
 """
 import pathlib
 import random
@@ -29,8 +29,8 @@ from worklist import PAUSE, emit, loop, names, par, present, tellers
 INSTANTS = 12
 COUNTED = 3  # random orders whose instructions are counted
 KINDS = ("sure", "asked", "paused")
-INSIDE = ("under a present", "in a signal", "of local signals")
-UNORDERED = ("after another one", "of local signals that never begin")
+INSIDE = ("under a present", "in a signal", "of local signals", "after another one", "inside another one")
+SLOW = "of local signals that never begin"
 
 
 def relay(count, kind, shuffle, masks=(0, 1)):
@@ -46,7 +46,7 @@ def relay(count, kind, shuffle, masks=(0, 1)):
 
 
 def inside(count, kind, shuffle):
-    """A relay of this many signals that stands inside a statement, after another one, or is of local signals."""
+    """A relay of this many signals that stands inside a statement, after or inside another one, or is of local signals."""
     if kind.startswith("of local signals"):
         signals = names("S", count)
         first = emit("S0") if kind == "of local signals" else present("I", emit("S0"))
@@ -60,6 +60,11 @@ def inside(count, kind, shuffle):
         shuffle(first)
         shuffle(second)
         return [], names("O", count), loop(par(*first), PAUSE, par(*second), PAUSE), [0]
+    if kind == "inside another one":
+        first, second = tellers(count)[: count // 2], tellers(count)[count // 2 :]
+        shuffle(first)
+        shuffle(second)
+        return [], names("O", count), loop(par(par(*first), *second), PAUSE), [0]
     body = present("I", par(*parts)) if kind == "under a present" else told_by(["S0"], par(*parts))
     return ["I"], names("O", count), loop(body, PAUSE), [1]
 
@@ -158,7 +163,7 @@ def main(words):
         compare(relays, random_relay, seed, programs)
         compare(rings, lambda r, n: ring(r.randrange(4, 33), r.shuffle), seed, programs)
         print(f"{relays} orders of relays and {rings} of rings: no difference; at most {programs.most:.2f} statements looked at over cells", flush=True)
-        compare(relays // 10, lambda r, n: inside(r.randrange(8, 32), UNORDERED[n % 2], r.shuffle), seed, programs, is_ordered=False)
+        compare(relays // 10, lambda r, n: inside(r.randrange(8, 32), SLOW, r.shuffle), seed, programs, is_ordered=False)
         for count in (16, 32, 63):
             print_row(f"relay of {count}", lambda shuffle, count=count: relay(count, "sure", shuffle), programs)
         for count in (16, 32, 63):
@@ -167,7 +172,7 @@ def main(words):
             print_row(f"relay of {count} from pauses", lambda shuffle, count=count: relay(count, "paused", shuffle), programs)
         for count in (8, 16, 32):
             print_row(f"ring of {count}", lambda shuffle, count=count: ring(count, shuffle), programs)
-        for kind in (*INSIDE, *UNORDERED):
+        for kind in (*INSIDE, SLOW):
             for count in (8, 16, 31):
                 print_row(f"relay of {count} {kind}", lambda shuffle, count=count, kind=kind: inside(count, kind, shuffle), programs)
 

@@ -33,10 +33,10 @@ CRATES = {
     "est_kernel": ("code_set", "completion", "mask", "pause_set", "statement"),
     "est_meaning": ("signal_set", "status"),
     "est_rounds": ("acts", "answer", "engine", "judged", "resume", "resume_step", "rounds", "start", "step"),
-    "est_net": ("cell_set", "emissions", "extents", "net", "pause_run", "reach", "reading", "table"),
-    "est_micro": ("cells", "closing", "decided", "direction", "extents", "find_begin", "find_resume", "idle", "lead", "learning", "micro", "must_can", "next_pauses", "outputs", "pass_begin",
+    "est_net": ("cell_set", "emissions", "extents", "net", "pause_run", "reach", "reading", "side_order", "table"),
+    "est_micro": ("cells", "closing", "decided", "direction", "extents", "idle", "lead", "learning", "micro", "must_can", "next_pauses", "outputs", "part", "pass_begin",
                   "pass_resume", "passes", "question", "settling",
-                  "side_order", "sides", "sweep_begin", "sweep_kind", "sweep_resume"),
+                  "sides", "sweep_begin", "sweep_kind", "sweep_resume", "walk"),
 }
 BY_HAND = {"est_kernel": ("interface", "kernel", "state")}  # modules of bench/port.rs
 INSTANTS = 20
@@ -94,14 +94,14 @@ def unchecked(text):
     return text
 
 
-def counting(module, text):
-    """A module of the engine that counts at which statements it looks. An order is made once, by the first run: that isn't counted."""
-    return text if module == "side_order" else re.sub(r"(match|\) =) s \{", r"\1 crate::looks::look(s) {", text)
+def counting(text):
+    """A module of the engine that counts at which statements it looks."""
+    return re.sub(r"(match|\) =) (s|part\.statement) \{", r"\1 crate::looks::look(\2) {", text)
 
 
 def unguessing(text):
     """A module of the engine without the order of sides, and without passes by the signals that were just decided."""
-    return text.replace("self.make_order(kernel);", "").replace("newly_decided(env_before, env)", "0")
+    return text.replace("net.orders().are_some()", "false").replace("newly_decided(env_before, env)", "0")
 
 
 def built(folder, as_kit=False, looks=False, guesses=True):
@@ -114,7 +114,7 @@ def built(folder, as_kit=False, looks=False, guesses=True):
     for crate, modules in CRATES.items():
         texts = {module: ported(crate, module) for module in modules}
         if crate == "est_micro" and looks:
-            texts = {module: counting(module, text) for module, text in texts.items()}
+            texts = {module: counting(text) for module, text in texts.items()}
         if crate == "est_micro" and not guesses:
             texts = {module: unguessing(text) for module, text in texts.items()}
         inside = [f"pub mod {module} {{\n{unchecked(text) if as_kit else text}}}" for module, text in texts.items()]
